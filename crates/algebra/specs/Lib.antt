@@ -1,0 +1,10 @@
+pub mod Ring
+pub mod Sum
+pub mod Power
+pub mod Binomial
+pub mod Series
+pub mod Newton
+pub mod Product
+pub mod Hom
+pub mod Natural
+pub mod Integer

@@ -1,0 +1,1 @@
+// The algebra is specifications only.
