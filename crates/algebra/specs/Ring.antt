@@ -146,3 +146,29 @@ module _ {A : Type 0} {o : Ops A} (l : Laws o) where
   pub ruleset signs = (neg-neg, neg-zero, neg-sum, mul-neg, neg-mul, add-neg, neg-add, cancel, cancel-left, cancel₁, cancel₂, cancel₃, cancel₄)
 
 pub ruleset ring = (semiring, signs)
+
+-- a field whose equality can be decided
+pub record Field {A : Type 0} (o : Ops A) : Type 0 where
+  pub laws : Laws o
+  pub decide : Discrete A
+  pub one-apart : o .one ≡ o .zero → ⊥
+  pub inverse : (a : A) → (a ≡ o .zero → ⊥) → (b : A) × (o .mul a b ≡ o .one)
+
+-- x can be cancelled
+abbrev pub Cancels : {A : Type 0} (o : Ops A) → A → Type 0
+Cancels {A} o x = (y z : A) → o .mul x y ≡ o .mul x z → y ≡ z
+
+module _ {A : Type 0} {o : Ops A} (s : Semi o) where
+  -- what has an inverse can be cancelled
+  pub cancels : (x y : A) → o .mul x y ≡ o .one → Cancels o x
+  cancels x y e u v h = sym (undo u) ∙ ap (o .mul y) h ∙ undo v
+    where
+      undo : (w : A) → o .mul y (o .mul x w) ≡ w
+      undo w = sym (mul-assoc s y x w) ∙ ap (λ z. o .mul z w) (mul-comm s y x ∙ e) ∙ one-mul s w
+
+module _ {A : Type 0} {o : Ops A} (F : Field o) where
+  -- no zero divisors
+  pub product-apart : (a b : A) → (a ≡ o .zero → ⊥) → (b ≡ o .zero → ⊥) → o .mul a b ≡ o .zero → ⊥
+  product-apart a b na nb e =
+      let i = F .inverse a na in
+      nb (cancels (F .laws .semi) a (i .0) (i .1) b (o .zero) (e ∙ sym (mul-zero (F .laws .semi) a)))
