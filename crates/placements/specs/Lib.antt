@@ -1,0 +1,5 @@
+pub mod Multiplicity
+pub mod Laying
+pub mod Places
+pub mod Placements
+pub mod Number

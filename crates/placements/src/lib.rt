@@ -1,0 +1,1 @@
+// The mathematics of laying weights on roots is specifications only.
