@@ -1,7 +1,7 @@
--- The natural numbers as a semiring.
+-- The natural numbers as a semiring, and induction from all smaller numbers.
 use mathlib.Core.Path.{_≡_, ap, _∙_}
 use mathlib.Core.List.{List, [], _∷_}
-use Prim.Native.Nat.{ℕ, zero, suc, _+_, _*_}
+use Prim.Native.Nat.{ℕ, zero, suc, _+_, _*_, _<_}
 use native.Mathlib.Nat as N
 use native.Mathlib.Omega.{arith}
 use lib.ListN.{length}
@@ -33,3 +33,11 @@ nat-naturals (suc n) = nat-suc naturals n ∙ ap (λ x. 1 + x) (nat-naturals n) 
 pub total-ones : {X : Type 0} (xs : List X) → total naturals xs (λ x. 1) ≡ length xs
 total-ones [] = total-nil naturals _
 total-ones (x ∷ xs) = total-cons naturals x xs _ ∙ ap (λ n. 1 + n) (total-ones xs) ∙ omega arith
+
+-- what follows from all smaller numbers holds of all
+pub strong : (P : ℕ → Type 0) → ((k : ℕ) → ((i : ℕ) → i < k → P i) → P k) → (k : ℕ) → P k
+strong P step k = below (suc k) k (omega arith)
+  where
+    below : (n i : ℕ) → i < n → P i
+    below zero i h = absurd (omega arith)
+    below (suc n) i h = step i (λ j d. below n j (omega arith))

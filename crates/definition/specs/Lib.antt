@@ -1,0 +1,9 @@
+pub mod Definition
+pub mod Rules
+pub mod OneAnswer
+pub mod Carry
+pub mod Roots
+pub mod Split
+pub mod Words
+pub mod Answer
+pub mod Turns
