@@ -7,3 +7,5 @@ pub mod Split
 pub mod Words
 pub mod Answer
 pub mod Turns
+pub mod Refusals
+pub mod Table
