@@ -1,0 +1,66 @@
+-- `without` meets its contract: the loop moves the later weights up one place (`moving`), and the last store frees the r-th place.
+use mathlib.Core.Path.{_≡_, sym, _∙_}
+use Prim.Native.Nat.{_≤_, _-_, _+_}
+use native.Mathlib.Omega.{arith}
+use borrow.Author.Needs.{needs}
+use lib.IntN.{pos}
+use lib.ListN.{length, getD, length-map}
+use mir.Syntax.{w32}
+use mir.ValLaws.{toZ-ofZ}
+use Rattle.weights.specs.Lists.{capacity}
+use Rattle.weights.specs.Laws.{among-long, among-past, without-kept}
+use Rattle.weights.proofs.Moving.{moving, moving-none, moving-more, freed}
+use Rattle.weights.proofs.Weights.without.Statement.{statement}
+use Rattle.weights.proofs.Weights.without.Tie as tie
+
+abbrev Inv-loop : tie.InvT-loop
+Inv-loop at n places₀ i₀ places i = (at ≤ i) × (i + 1 ≤ n) × (n ≤ capacity) × (length places₀ ≡ capacity) × (places ≡ moving places₀ at i)
+
+abbrev μ-loop : tie.MeasureT-loop
+μ-loop at n places₀ i₀ places i = n - i
+
+returns : tie.Need-returns Inv-loop μ-loop
+returns c = sym (without-kept _ _ (among-long _ _ (c .if1 .taken)))
+
+returns-2 : tie.Need-returns-2 Inv-loop μ-loop
+returns-2 c = sym (without-kept _ _ (among-past _ _ (c .if2 .taken)))
+
+loop-holds : tie.Need-loop-holds Inv-loop μ-loop
+loop-holds c =
+    let s = c .before .before .before in
+    (search needs, search needs, search needs, sym (length-map (s .args .self .places) _) ∙ s .good .0 .1 .1 .0 .1 .0 .1, moving-none (s .args .self .places) (s .args .at))
+
+loop-again : tie.Need-loop-again Inv-loop μ-loop
+loop-again c =
+    let s = c .before .before .before .before .before .before in
+    let l = c .before .before .loop in
+    let v = toZ-ofZ w32 (getD (l .places) (l .i + 1) (pos 0)) (record { sfits = c .places2 .given }) in
+    (search needs, search needs, search needs, l .inv .3, moving-more (s .args .self .places) (s .args .at) (l .i) (search needs) (omega (arith, l .inv)) _ _ (omega (arith, l .inv)) (l .inv .4) v)
+
+returns-3 : tie.Need-returns-3 Inv-loop μ-loop
+returns-3 c =
+    let s = c .before .before .before .before .before in
+    let l = c .before .loop in
+    freed (s .args .self) (s .args .at) (l .i) (l .places) (l .inv .3) (search needs) (search needs) (search needs) (l .inv .4)
+
+pub without-spec : {M : Type 1} → statement M
+without-spec =
+    tie.close
+    (tie.spec
+    Inv-loop
+    μ-loop
+    returns
+    returns-2
+    loop-holds
+    (λ c. search needs)
+    (λ c. search needs)
+    (λ c. search needs)
+    (λ c. search needs)
+    (λ c. search needs)
+    (λ c. search needs)
+    (λ c. search needs)
+    (λ c. search needs)
+    loop-again
+    (λ c. search needs)
+    (λ c. search needs)
+    returns-3)

@@ -1,0 +1,110 @@
+-- What callers use of the definitions: the cases by plain facts, and what becomes of the weights that a list holds.
+-- A field `[i32; 6]` is a list that has six members only where a function starts (`.good`), so the laws that need it ask for it.
+use mathlib.Core.Path.{_≡_, refl, _∙_}
+use mathlib.Core.Bool.{Bool, true, false, cond, _&&_, and-false}
+use mathlib.Core.List.{List, _∷_, _++_}
+use Prim.Native.Nat.{ℕ, suc, _+_, _-_, _≤_, _<_, _^_}
+use native.Mathlib.Numerals.{add-one}
+use native.Mathlib.Omega.{arith}
+use lib.IntN.{ℤ, pos, _+ℤ_}
+use lib.Signed.{mag}
+use lib.ListN.{length, take, drop, getD, length-append, length-take, length-drop}
+use lib.Seq.{slice, take-at, take-set-lt, getD-take, length-take-le, take-take}
+use lib.Dec.{leb}
+use borrow.Author.Tests.{lt-ltb, le-ltb, le-leb, lt-leb}
+use Rattle.placements.specs.Places.{with-sum, length-with-sum}
+use Rattle.weights.specs.Lists.{capacity, listed, among, fits, moved-up, without-at, with-sum-at}
+use Rattle.weights.specs.declared.Weights.{Weights}
+
+module _ (s : Weights) (at : ℕ) where
+  -- ---- the cases
+
+  pub among-long : capacity < s .len → among s at ≡ false
+  unfolding among
+  among-long h = rw (lt-leb (s .len) capacity h)
+
+  pub among-past : s .len ≤ at → among s at ≡ false
+  unfolding among
+  among-past h = rw (le-ltb at (s .len) h, and-false (leb (s .len) capacity))
+
+  pub among-there : s .len ≤ capacity → at < s .len → among s at ≡ true
+  unfolding among
+  among-there h k = rw (le-leb (s .len) capacity h, lt-ltb at (s .len) k)
+
+  pub without-kept : among s at ≡ false → without-at s at ≡ s
+  unfolding without-at
+  without-kept h = rw h
+
+  pub without-taken : among s at ≡ true → without-at s at ≡ record { places = moved-up (s .places) (s .len) at; len = s .len - 1 }
+  unfolding without-at
+  without-taken h = rw h
+
+  module _ (e : ℤ) where
+    pub with-sum-kept : among s at ≡ false → with-sum-at s at e ≡ s
+    unfolding with-sum-at
+    with-sum-kept h = rw h
+
+    pub with-sum-unfit : fits (getD (s .places) at (pos 0) +ℤ e) ≡ false → with-sum-at s at e ≡ s
+    unfolding with-sum-at
+    with-sum-unfit h = rw (h, and-false (among s at))
+
+    pub with-sum-put : among s at ≡ true → fits (getD (s .places) at (pos 0) +ℤ e) ≡ true → with-sum-at s at e ≡ record { places = with-sum (s .places) at e; len = s .len }
+    unfolding with-sum-at
+    with-sum-put h k = rw (h, k)
+
+  -- whatever the case, a sum leaves the count and the number of places
+  chosen-len : (t : Bool) (l : List ℤ) → cond t (record { places = l; len = s .len }) s .len ≡ s .len
+  chosen-len true l = refl
+  chosen-len false l = refl
+
+  chosen-places : (t : Bool) (l : List ℤ) → length l ≡ length (s .places) → length (cond t (record { places = l; len = s .len }) s .places) ≡ length (s .places)
+  chosen-places true l h = h
+  chosen-places false l h = refl
+
+  pub with-sum-len : (e : ℤ) → with-sum-at s at e .len ≡ s .len
+  unfolding with-sum-at
+  with-sum-len e = chosen-len (among s at && fits (getD (s .places) at (pos 0) +ℤ e)) (with-sum (s .places) at e)
+
+  pub with-sum-places : (e : ℤ) → length (with-sum-at s at e .places) ≡ length (s .places)
+  unfolding with-sum-at
+  with-sum-places e = chosen-places (among s at && fits (getD (s .places) at (pos 0) +ℤ e)) (with-sum (s .places) at e) (length-with-sum (s .places) at e)
+
+-- ---- what becomes of the weights
+
+module _ (s : Weights) (six : length (s .places) ≡ capacity) (short : s .len ≤ capacity) where
+  pub listed-length : length (listed s) ≡ s .len
+  unfolding listed
+  listed-length = length-take-le (s .len) (s .places) (omega arith)
+
+  module _ (at : ℕ) (within : at < s .len) where
+    pub listed-at : getD (listed s) at (pos 0) ≡ getD (s .places) at (pos 0)
+    unfolding listed
+    listed-at = getD-take (s .len) (s .places) at (pos 0) within
+
+    pub without-len : without-at s at .len ≡ s .len - 1
+    without-len = rw (without-taken s at (among-there s at short within))
+
+    left : List ℤ
+    left = take at (s .places) ++ slice (at + 1) (s .len) (s .places)
+
+    left-length : length left ≡ s .len - 1
+    unfolding left
+    left-length = simp (length-append, length-drop, length-take) (omega arith)
+
+    pub without-places : length (without-at s at .places) ≡ capacity
+    unfolding moved-up
+    without-places = rw (without-taken s at (among-there s at short within)) (simp (length-append, length-drop, length-take) (omega arith))
+
+    -- the others, in order; of the first weight (at = 0) they are `drop 1 (listed s)`
+    pub without-listed : listed (without-at s at) ≡ take at (listed s) ++ drop (suc at) (listed s)
+    unfolding listed moved-up left
+    without-listed =
+        rw (without-taken s at (among-there s at short within))
+        (take-at left (pos 0 ∷ drop (s .len) (s .places)) (s .len - 1) left-length
+        ∙ rw (add-one at, take-take at (s .len) (s .places) (omega arith)))
+
+    pub with-sum-listed : (e : ℤ) → mag (getD (listed s) at (pos 0) +ℤ e) < 2 ^ 31 → listed (with-sum-at s at e) ≡ with-sum (listed s) at e
+    unfolding listed with-sum
+    with-sum-listed e fit =
+        rw (with-sum-put s at e (among-there s at short within) (lt-ltb _ _ (rw listed-at at fit)))
+        (take-set-lt (s .len) (s .places) at _ within ∙ rw listed-at)

@@ -1,0 +1,40 @@
+-- Weight lists (document 01, "A job in numbers"): which weights a list holds, and the list that comes of taking one out or of
+-- putting a sum in its place. Every list and every place is answered.
+use Prim.Native.Nat.{ℕ, _+_, _-_, _^_}
+use mathlib.Core.Bool.{Bool, cond, _&&_}
+use mathlib.Core.List.{List, _∷_, _++_}
+use lib.ListN.{take, drop, getD}
+use lib.Seq.{slice}
+use lib.Dec.{ltb, leb}
+use lib.IntN.{ℤ, pos, _+ℤ_}
+use lib.Signed.{mag}
+use Rattle.placements.specs.Places.{with-sum}
+use Rattle.weights.specs.declared.Weights.{Weights}
+
+-- "at most 6 signed weights"
+abbrev pub capacity : ℕ
+capacity = 6
+
+-- the weights are the first r places; "places after the r-th count for nothing"
+unfoldable pub listed : Weights → List ℤ
+listed s = take (s .len) (s .places)
+
+-- the place is among the first r, and r is not above 6; the first place is 0
+unfoldable pub among : Weights → ℕ → Bool
+among s at = leb (s .len) capacity && ltb at (s .len)
+
+-- a weight's word of 32 bits holds -2^31 to 2^31 - 1; `mag` is n for n and for -(n + 1)
+abbrev pub fits : ℤ → Bool
+fits z = ltb (mag z) (2 ^ 31)
+
+-- of r weights the one at a place goes: "the later ones move up one place, in order, and the place freed holds 0"
+unfoldable pub moved-up : List ℤ → ℕ → ℕ → List ℤ
+moved-up l r at = take at l ++ slice (at + 1) r l ++ pos 0 ∷ drop r l
+
+-- "taking one weight out"; else "the list comes back as it was"
+unfoldable pub without-at : Weights → ℕ → Weights
+without-at s at = cond (among s at) (record { places = moved-up (s .places) (s .len) at; len = s .len - 1 }) s
+
+-- "putting a sum in changes that place only"; else "the list comes back as it was"
+unfoldable pub with-sum-at : Weights → ℕ → ℤ → Weights
+with-sum-at s at e = cond (among s at && fits (getD (s .places) at (pos 0) +ℤ e)) (record { places = with-sum (s .places) at e; len = s .len }) s
