@@ -1,1 +1,2 @@
 pub mod Hat
+pub mod Rows

@@ -1,0 +1,5 @@
+pub mod Laws
+pub mod Lent
+pub mod Lists
+pub mod Collisions
+pub mod Ends
