@@ -2,10 +2,9 @@
 ghost use mathlib.Core.Path.{_≡_};
 ghost use Prim.Native.Nat.{_-_};
 ghost use lib.ListN.{getD};
-ghost use Rattle.algebra.specs.Ring.{Ops};
 ghost use Rattle.algebra.specs.Sum.{sum};
+ghost use Rattle.residues.specs.Promises.{InRange};
 ghost use Rattle.residues.specs.Residues.{residues};
-ghost use Rattle.timing.specs.{InRange};
 
 // The inner product, and 0 where its words do not have the range.
 #[no_mangle]

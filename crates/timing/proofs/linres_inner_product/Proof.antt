@@ -1,18 +1,10 @@
 -- `timing::linres_inner_product` meets its contract: each test refuses one part of the range, and past all of them the range is whole.
 use borrow.Author.Needs.{needs}
-use native.Mathlib.Omega.{arith}
-use Rattle.timing.specs.{InRange}
 use Rattle.timing.proofs.linres_inner_product.Statement.{statement}
 use Rattle.timing.proofs.linres_inner_product.Tie as tie
 
 returns-6 : tie.Need-returns-6
-returns-6 c = (
-  λ h. c .inner-product .ensures,
-  λ none.
-      absurd
-      (none
-      (record { modulus = search needs; first = search needs; few = search needs; second = search needs; back = search needs })),
-)
+returns-6 c = (λ h. c .inner-product .ensures, λ none. absurd (none (search needs)))
 
 pub linres-inner-product-spec : {M : Type 1} → statement M
 linres-inner-product-spec =
