@@ -74,7 +74,7 @@ module _ {A : Type 0} {o : Ops A} (l : Laws o) where
       ∙ ap₂ _⊕_ (sym (sum₁-is o (length c) _)) (sum-cong o (m - length c) _ (λ i. 𝟘) (λ i b. ap (λ x. x ⊗ g (suc (length c + i))) (nth-past o c (suc (length c + i)) (omega arith)) ∙ R.zero-mul (l .semi) _) ∙ sum-zeros (l .semi) _)
       ∙ R.add-zero (l .semi) _
 
-  past-degree : (c : List A) (k : ℕ) (g : ℕ → A) → length c < k → ⊖ (nat o k ⊗ nth o c k ⊕ sum₁ o (k - 1) (λ i. nth o c i ⊗ g i)) ≡ ⊖ sum₁ o (length c) (λ i. nth o c i ⊗ g i)
+  pub past-degree : (c : List A) (k : ℕ) (g : ℕ → A) → length c < k → ⊖ (nat o k ⊗ nth o c k ⊕ sum₁ o (k - 1) (λ i. nth o c i ⊗ g i)) ≡ ⊖ sum₁ o (length c) (λ i. nth o c i ⊗ g i)
   past-degree c k g h = ap (λ x. ⊖ x)
       (ap₂ _⊕_ (ap (λ x. nat o k ⊗ x) (nth-past o c k h) ∙ R.mul-zero (l .semi) _) (sum-ends c (k - 1) g (omega arith)) ∙ R.zero-add (l .semi) _)
 

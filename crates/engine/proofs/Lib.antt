@@ -3,3 +3,4 @@ pub mod Lent
 pub mod Lists
 pub mod Collisions
 pub mod Ends
+pub mod Terms

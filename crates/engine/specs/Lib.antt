@@ -1,2 +1,3 @@
 pub mod Hat
 pub mod Rows
+pub mod Newton
