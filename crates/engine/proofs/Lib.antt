@@ -4,3 +4,4 @@ pub mod Lists
 pub mod Collisions
 pub mod Ends
 pub mod Terms
+pub mod Joined

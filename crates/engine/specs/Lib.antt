@@ -1,3 +1,4 @@
 pub mod Hat
 pub mod Rows
 pub mod Newton
+pub mod Answered
