@@ -2,7 +2,7 @@
 -- are those of a word's range.
 use mathlib.Core.Path.{_≡_, sym, _∙_}
 use mathlib.Core.Bool.{true, false}
-use Prim.Native.Nat.{ℕ, _≤_, _<_, _^_}
+use Prim.Native.Nat.{ℕ, _<_, _^_}
 use native.Mathlib.Omega.{arith}
 use lib.IntN.{ℤ, pos, negsuc, _+ℤ_}
 use lib.Signed.{mag, ltZ, natAbs-le}
@@ -12,8 +12,8 @@ use mir.Syntax.{w32, w64}
 use mir.Val.{SFits, toZ, ofZ}
 use mir.ValLaws.{toZ-ofZ}
 use Rattle.placements.specs.Places.{with-sum}
-use Rattle.weights.specs.Lists.{capacity, fits, with-sum-at}
-use Rattle.weights.specs.Laws.{among-there, with-sum-unfit, with-sum-put}
+use Rattle.weights.specs.Lists.{among, fits, put-in, with-sum-at}
+use Rattle.weights.specs.Laws.{with-sum-unfit, with-sum-put}
 use Rattle.weights.specs.Sizes.{natAbs-add, mag-natAbs}
 use Rattle.weights.specs.declared.Weights.{Weights}
 
@@ -73,8 +73,8 @@ module _ (s : Weights) (at : ℕ) (e : ℤ) (hx : mag (getD (s .places) at (pos 
     pub sum-cast : SFits w32 (coded weight e)
     sum-cast = rw is-sum in-word
 
-    pub sum-put : s .len ≤ capacity → at < s .len → record { places = set (s .places) at (toZ w32 (ofZ w32 (coded weight e))); len = s .len } ≡ with-sum-at s at e
-    unfolding with-sum
-    sum-put short within =
+    pub sum-put : among s at ≡ true → record { places = set (s .places) at (toZ w32 (ofZ w32 (coded weight e))); len = s .len } ≡ with-sum-at s at e
+    unfolding with-sum put-in
+    sum-put there =
         rw (is-sum, toZ-ofZ w32 (weight +ℤ e) in-word)
-        (sym (with-sum-put s at e (among-there s at short within) (lt-ltb _ _ (in-word .sfits))))
+        (sym (with-sum-put s at e there (lt-ltb _ _ (in-word .sfits))))

@@ -1,7 +1,7 @@
 // A weight list: at most 6 signed weights with their count r (document 01, "A job in numbers").
 // A list goes in by value and a new one comes back; the old one stays good. Every list and place is answered.
 ghost use mathlib.Core.Path.{_≡_};
-ghost use Rattle.weights.specs.Lists.{without-at, with-sum-at};
+ghost use Rattle.weights.specs.Lists.{among, without-at, with-sum-at};
 
 // The most weights that a list holds.
 pub const CAPACITY: usize = 6;
@@ -13,17 +13,25 @@ pub struct Weights {
 }
 
 impl Weights {
+    // Whether a place is among the first r, and r is not above 6.
+    fn has_place(self, at: usize) -> bool
+        ensures { λ r. ⌜ r ≡ among self at ⌝ }
+    {
+        let n = self.len;
+        if n > CAPACITY {
+            return false;
+        }
+        at < n
+    }
+
     // The list without the weight at a place.
     pub fn without(self, at: usize) -> Weights
         ensures { λ r. ⌜ r ≡ without-at self at ⌝ }
     {
+        if !self.has_place(at) {
+            return self;
+        }
         let n = self.len;
-        if n > CAPACITY {
-            return self;
-        }
-        if at >= n {
-            return self;
-        }
         let mut places = self.places;
         let mut i = at;
         while i + 1 < n {
@@ -41,11 +49,7 @@ impl Weights {
     pub fn with_sum(mut self, at: usize, e: i32) -> Weights
         ensures { λ r. ⌜ r ≡ with-sum-at self at e ⌝ }
     {
-        let n = self.len;
-        if n > CAPACITY {
-            return self;
-        }
-        if at >= n {
+        if !self.has_place(at) {
             return self;
         }
         let weight = self.places[at];
