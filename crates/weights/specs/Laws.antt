@@ -3,13 +3,13 @@
 use mathlib.Core.Path.{_≡_, refl, _∙_}
 use mathlib.Core.Bool.{Bool, true, false, cond, _&&_, and-false, and-eq-true-iff}
 use mathlib.Core.List.{List, _∷_, _++_}
-use Prim.Native.Nat.{ℕ, suc, _+_, _-_, _≤_, _<_, _^_}
+use Prim.Native.Nat.{ℕ, suc, _+_, _-_, _≤_, _<_, _^_, min}
 use native.Mathlib.Numerals.{add-one}
 use native.Mathlib.Omega.{arith}
 use lib.IntN.{ℤ, pos, _+ℤ_}
 use lib.Signed.{mag}
 use lib.ListN.{length, take, drop, getD, length-append, length-take, length-drop}
-use lib.Seq.{slice, take-at, take-set-lt, getD-take, length-take-le, take-take}
+use lib.Seq.{slice, drop-cons, take-at, take-set-lt, getD-take, take-take}
 use lib.Dec.{leb, ltb}
 use borrow.Author.Tests.{lt-ltb, le-leb, lt-leb, leb-true, ltb-true}
 use Rattle.placements.specs.Places.{with-sum, length-with-sum}
@@ -72,16 +72,20 @@ module _ (s : Weights) (at : ℕ) where
 
 -- ---- what becomes of the weights
 
+module _ (s : Weights) where
+  pub listed-min : length (listed s) ≡ min (s .len) (length (s .places))
+  unfolding listed
+  listed-min = length-take (s .len) (s .places)
+
+  pub listed-at : (i : ℕ) → i < s .len → getD (listed s) i (pos 0) ≡ getD (s .places) i (pos 0)
+  unfolding listed
+  listed-at i h = getD-take (s .len) (s .places) i (pos 0) h
+
 module _ (s : Weights) (six : length (s .places) ≡ capacity) (short : s .len ≤ capacity) where
   pub listed-length : length (listed s) ≡ s .len
-  unfolding listed
-  listed-length = length-take-le (s .len) (s .places) (omega arith)
+  listed-length = omega (arith, listed-min s)
 
   module _ (at : ℕ) (within : at < s .len) where
-    pub listed-at : getD (listed s) at (pos 0) ≡ getD (s .places) at (pos 0)
-    unfolding listed
-    listed-at = getD-take (s .len) (s .places) at (pos 0) within
-
     pub without-len : without-at s at .len ≡ s .len - 1
     unfolding taken-out
     without-len = rw (without-taken s at (among-there s at short within))
@@ -108,5 +112,11 @@ module _ (s : Weights) (six : length (s .places) ≡ capacity) (short : s .len �
     pub with-sum-listed : (e : ℤ) → mag (getD (listed s) at (pos 0) +ℤ e) < 2 ^ 31 → listed (with-sum-at s at e) ≡ with-sum (listed s) at e
     unfolding listed with-sum put-in
     with-sum-listed e fit =
-        rw (with-sum-put s at e (among-there s at short within) (lt-ltb _ _ (rw listed-at at fit)))
-        (take-set-lt (s .len) (s .places) at _ within ∙ rw listed-at)
+        rw (with-sum-put s at e (among-there s at short within) (lt-ltb _ _ (rw (listed-at s at within) at fit)))
+        (take-set-lt (s .len) (s .places) at _ within ∙ rw (listed-at s at within))
+
+  -- the first weight, and the others
+  pub listed-first : 0 < s .len → listed s ≡ getD (s .places) 0 (pos 0) ∷ listed (without-at s 0)
+  listed-first some =
+      drop-cons (listed s) 0 (pos 0) (omega (arith, listed-length))
+      ∙ rw (without-listed 0 some, listed-at s 0 some)

@@ -15,7 +15,7 @@ use Rattle.weights.specs.declared.Weights.{Weights}
 abbrev pub capacity : ℕ
 capacity = 6
 
--- the weights are the first r places; "places after the r-th count for nothing"
+-- the weights are the first r places, or all six where r is above 6; "places after the r-th count for nothing"
 unfoldable pub listed : Weights → List ℤ
 listed s = take (s .len) (s .places)
 
@@ -35,7 +35,7 @@ taken-out s at = record { places = take at (s .places) ++ slice (at + 1) (s .len
 unfoldable pub put-in : Weights → ℕ → ℤ → Weights
 put-in s at e = record { places = with-sum (s .places) at e; len = s .len }
 
--- else "the list comes back as it was"
+-- "if the place isn't among the first r, or r is above 6, or the sum doesn't fit its word, the list comes back as it was"
 unfoldable pub without-at : Weights → ℕ → Weights
 without-at s at = cond (among s at) (taken-out s at) s
 

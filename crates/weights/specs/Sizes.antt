@@ -95,7 +95,7 @@ module _ (s : Weights) (b : Bounded s) (at : ℕ) (within : at < s .len) where
 
   pub rest-size : natAbs weight + size (listed rest) ≡ size (listed s)
   rest-size =
-      rw (without-listed s (b .six) (b .short) at within, ← listed-at s (b .six) (b .short) at within)
+      rw (without-listed s (b .six) (b .short) at within, ← listed-at s at within)
       (size-without (listed s) at (rw (listed-length s (b .six) (b .short)) within))
 
   pub rest-bounded : Bounded rest

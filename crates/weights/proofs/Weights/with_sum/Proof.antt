@@ -38,22 +38,22 @@ add-sum c =
 returns-2 : tie.Need-returns-2
 returns-2 c =
     let s = c .before .before .before .before in
-    sum-low (s .args .t1) (s .args .at) (s .args .e) (c .before .weight .given) (s .fits .e) (c .if2 .taken)
+    sum-low (s .args .t1) (s .args .at) (s .args .e) (c .before .weight .given) (s .fits .e) _ (c .if2 .taken) (omega arith)
 
 returns-3 : tie.Need-returns-3
 returns-3 c =
     let s = c .before .before .before .before .before in
-    sum-high (s .args .t1) (s .args .at) (s .args .e) (c .before .before .weight .given) (s .fits .e) (c .if3 .taken)
+    sum-high (s .args .t1) (s .args .at) (s .args .e) (c .before .before .weight .given) (s .fits .e) _ (c .if3 .taken) (omega arith)
 
 cast-self : tie.Need-cast-self
 cast-self c =
     let s = c .before .before .before .before .before in
-    sum-cast (s .args .t1) (s .args .at) (s .args .e) (c .before .before .weight .given) (s .fits .e) (c .before .if2 .left) (c .if3 .left)
+    sum-cast (s .args .t1) (s .args .at) (s .args .e) (c .before .before .weight .given) (s .fits .e) _ _ (c .before .if2 .left) (c .if3 .left) (omega arith) (omega arith)
 
 returns-4 : tie.Need-returns-4
 returns-4 c =
     let s = c .before .before .before .before .before in
-    sum-put (s .args .t1) (s .args .at) (s .args .e) (c .before .before .weight .given) (s .fits .e) (c .before .if2 .left) (c .if3 .left)
+    sum-put (s .args .t1) (s .args .at) (s .args .e) (c .before .before .weight .given) (s .fits .e) _ _ (c .before .if2 .left) (c .if3 .left) (omega arith) (omega arith)
     (there (c .before .before .before))
 
 pub with-sum-spec : {M : Type 1} → statement M

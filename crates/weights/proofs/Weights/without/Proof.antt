@@ -4,8 +4,7 @@ use Prim.Native.Nat.{_≤_, _-_, _+_}
 use native.Mathlib.Omega.{arith}
 use borrow.Author.Needs.{needs}
 use borrow.Author.Tests.{not-true, not-false}
-use lib.IntN.{pos}
-use lib.ListN.{length, getD, length-map}
+use lib.ListN.{length, length-map}
 use mir.Syntax.{w32}
 use mir.ValLaws.{toZ-ofZ}
 use Rattle.weights.specs.Lists.{capacity}
@@ -33,8 +32,7 @@ loop-again : tie.Need-loop-again Inv-loop μ-loop
 loop-again c =
     let a = c .before .before .before .before .before .before .args in
     let l = c .before .before .loop in
-    let v = toZ-ofZ w32 (getD (l .places) (l .i + 1) (pos 0)) (record { sfits = c .places2 .given }) in
-    (search needs, search needs, search needs, l .inv .3, moving-more (a .self .places) (a .at) (l .i) (search needs) (omega (arith, l .inv)) _ _ (omega (arith, l .inv)) (l .inv .4) v)
+    (search needs, search needs, search needs, l .inv .3, moving-more (a .self .places) (a .at) (l .i) (search needs) (omega (arith, l .inv)) _ _ (omega (arith, l .inv)) (l .inv .4) (toZ-ofZ w32 _ (record { sfits = c .places2 .given })))
 
 returns-2 : tie.Need-returns-2 Inv-loop μ-loop
 returns-2 c =
