@@ -1,2 +1,4 @@
 pub mod Moving
 pub mod Sum
+pub mod Counting
+pub mod Falling

@@ -8,7 +8,7 @@ use native.Mathlib.Omega.{arith}
 use lib.IntN.{ℤ, pos}
 use lib.ListN.{length, take, drop, set, getD, length-append, length-take, length-drop, take-append-drop}
 use lib.Seq.{slice, slice-empty, take-suc, drop-cons, set-at, drop-append-le, length-take-le, append-snoc, getD-append-add, getD-drop}
-use Rattle.weights.specs.Lists.{capacity, moved-up, without-at}
+use Rattle.weights.specs.Lists.{capacity, taken-out, without-at}
 use Rattle.weights.specs.Laws.{among-there, without-taken}
 use Rattle.weights.specs.declared.Weights.{Weights}
 
@@ -50,7 +50,7 @@ module _ (l : List ℤ) (at i : ℕ) (from : at ≤ i) (within : i < length l) w
 
 pub freed : (s : Weights) (at i : ℕ) (w : List ℤ) → length (s .places) ≡ capacity → s .len ≤ capacity → at ≤ i → i + 1 ≡ s .len → w ≡ moving (s .places) at i
     → record { places = set w i (pos 0); len = i } ≡ without-at s at
-unfolding moved-up
+unfolding taken-out
 freed s at i w six short from last h =
     let one-less : i ≡ s .len - 1 = omega arith in
     rw (h, stored (s .places) at i from (omega arith) (pos 0), last, without-taken s at (among-there s at short (omega arith)), ← one-less)

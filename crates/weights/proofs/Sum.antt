@@ -2,7 +2,7 @@
 -- are those of a word's range.
 use mathlib.Core.Path.{_≡_, sym, _∙_}
 use mathlib.Core.Bool.{true, false}
-use Prim.Native.Nat.{ℕ, _≤_, _<_, _^_}
+use Prim.Native.Nat.{ℕ, _+_, _≤_, _<_, _^_}
 use native.Mathlib.Omega.{arith}
 use lib.IntN.{ℤ, pos, negsuc, _+ℤ_}
 use lib.Signed.{mag, ltZ, natAbs-le}
@@ -12,8 +12,8 @@ use mir.Syntax.{w32, w64}
 use mir.Val.{SFits, toZ, ofZ}
 use mir.ValLaws.{toZ-ofZ}
 use Rattle.placements.specs.Places.{with-sum}
-use Rattle.weights.specs.Lists.{capacity, fits, with-sum-at}
-use Rattle.weights.specs.Laws.{among-there, with-sum-unfit, with-sum-put}
+use Rattle.weights.specs.Lists.{among, fits, put-in, with-sum-at}
+use Rattle.weights.specs.Laws.{with-sum-unfit, with-sum-put}
 use Rattle.weights.specs.Sizes.{natAbs-add, mag-natAbs}
 use Rattle.weights.specs.declared.Weights.{Weights}
 
@@ -38,18 +38,18 @@ module _ (x e : ℤ) (hx : SFits w32 x) (he : SFits w32 e) where
   pub coded-is : coded x e ≡ x +ℤ e
   coded-is = toZ-ofZ w64 _ sum-fits ∙ rw (wide-is x hx, wide-is e he)
 
--- the two tests of the range
-pub too-low : (z : ℤ) → ltZ z (negsuc 2147483647) ≡ true → fits z ≡ false
-too-low (pos n) t = let q : _≡_ {A = ℕ} 0 1 = cc in absurd (omega arith)
-too-low (negsuc n) t = le-ltb n (2 ^ 31) (omega (arith, ltb-true 2147483647 n t))
+-- tests against -(m + 1) and m, and what they say of a word's range
+pub too-low : (m : ℕ) (z : ℤ) → ltZ z (negsuc m) ≡ true → 2 ^ 31 ≤ m + 1 → fits z ≡ false
+too-low m (pos n) t h = let q : _≡_ {A = ℕ} 0 1 = cc in absurd (omega arith)
+too-low m (negsuc n) t h = le-ltb n (2 ^ 31) (omega (arith, ltb-true m n t))
 
-pub too-high : (z : ℤ) → ltZ (pos 2147483647) z ≡ true → fits z ≡ false
-too-high (pos n) t = le-ltb n (2 ^ 31) (omega (arith, ltb-true 2147483647 n t))
-too-high (negsuc n) t = let q : _≡_ {A = ℕ} 0 1 = cc in absurd (omega arith)
+pub too-high : (m : ℕ) (z : ℤ) → ltZ (pos m) z ≡ true → 2 ^ 31 ≤ m + 1 → fits z ≡ false
+too-high m (pos n) t h = le-ltb n (2 ^ 31) (omega (arith, ltb-true m n t))
+too-high m (negsuc n) t h = let q : _≡_ {A = ℕ} 0 1 = cc in absurd (omega arith)
 
-pub in-range : (z : ℤ) → ltZ z (negsuc 2147483647) ≡ false → ltZ (pos 2147483647) z ≡ false → mag z < 2 ^ 31
-in-range (pos n) l h = omega (arith, ltb-false 2147483647 n h)
-in-range (negsuc n) l h = omega (arith, ltb-false 2147483647 n l)
+pub in-range : (l m : ℕ) (z : ℤ) → ltZ z (negsuc l) ≡ false → ltZ (pos m) z ≡ false → l < 2 ^ 31 → m < 2 ^ 31 → mag z < 2 ^ 31
+in-range l m (pos n) low high hl hm = omega (arith, ltb-false m n high)
+in-range l m (negsuc n) low high hl hm = omega (arith, ltb-false l n low)
 
 -- ---- what becomes of the list, by the code's tests
 
@@ -60,21 +60,21 @@ module _ (s : Weights) (at : ℕ) (e : ℤ) (hx : mag (getD (s .places) at (pos 
   is-sum : coded weight e ≡ weight +ℤ e
   is-sum = coded-is weight e (record { sfits = hx }) he
 
-  pub sum-low : ltZ (coded weight e) (negsuc 2147483647) ≡ true → s ≡ with-sum-at s at e
-  sum-low t = sym (with-sum-unfit s at e (too-low (weight +ℤ e) (rw is-sum at t)))
+  pub sum-low : (l : ℕ) → ltZ (coded weight e) (negsuc l) ≡ true → 2 ^ 31 ≤ l + 1 → s ≡ with-sum-at s at e
+  sum-low l t h = sym (with-sum-unfit s at e (too-low l (weight +ℤ e) (rw is-sum at t) h))
 
-  pub sum-high : ltZ (pos 2147483647) (coded weight e) ≡ true → s ≡ with-sum-at s at e
-  sum-high t = sym (with-sum-unfit s at e (too-high (weight +ℤ e) (rw is-sum at t)))
+  pub sum-high : (m : ℕ) → ltZ (pos m) (coded weight e) ≡ true → 2 ^ 31 ≤ m + 1 → s ≡ with-sum-at s at e
+  sum-high m t h = sym (with-sum-unfit s at e (too-high m (weight +ℤ e) (rw is-sum at t) h))
 
-  module _ (low : ltZ (coded weight e) (negsuc 2147483647) ≡ false) (high : ltZ (pos 2147483647) (coded weight e) ≡ false) where
+  module _ (l m : ℕ) (low : ltZ (coded weight e) (negsuc l) ≡ false) (high : ltZ (pos m) (coded weight e) ≡ false) (hl : l < 2 ^ 31) (hm : m < 2 ^ 31) where
     in-word : SFits w32 (weight +ℤ e)
-    in-word = record { sfits = in-range (weight +ℤ e) (rw is-sum at low) (rw is-sum at high) }
+    in-word = record { sfits = in-range l m (weight +ℤ e) (rw is-sum at low) (rw is-sum at high) hl hm }
 
     pub sum-cast : SFits w32 (coded weight e)
     sum-cast = rw is-sum in-word
 
-    pub sum-put : s .len ≤ capacity → at < s .len → record { places = set (s .places) at (toZ w32 (ofZ w32 (coded weight e))); len = s .len } ≡ with-sum-at s at e
-    unfolding with-sum
-    sum-put short within =
+    pub sum-put : among s at ≡ true → record { places = set (s .places) at (toZ w32 (ofZ w32 (coded weight e))); len = s .len } ≡ with-sum-at s at e
+    unfolding with-sum put-in
+    sum-put there =
         rw (is-sum, toZ-ofZ w32 (weight +ℤ e) in-word)
-        (sym (with-sum-put s at e (among-there s at short within) (lt-ltb _ _ (in-word .sfits))))
+        (sym (with-sum-put s at e there (lt-ltb _ _ (in-word .sfits))))

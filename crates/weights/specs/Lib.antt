@@ -1,4 +1,5 @@
 pub mod Lists
 pub mod Laws
 pub mod Sizes
+pub mod Numbers
 pub mod Promises

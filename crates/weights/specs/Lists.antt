@@ -15,7 +15,7 @@ use Rattle.weights.specs.declared.Weights.{Weights}
 abbrev pub capacity : ℕ
 capacity = 6
 
--- the weights are the first r places; "places after the r-th count for nothing"
+-- the weights are the first r places, or all six where r is above 6; "places after the r-th count for nothing"
 unfoldable pub listed : Weights → List ℤ
 listed s = take (s .len) (s .places)
 
@@ -27,14 +27,17 @@ among s at = leb (s .len) capacity && ltb at (s .len)
 abbrev pub fits : ℤ → Bool
 fits z = ltb (mag z) (2 ^ 31)
 
--- of r weights the one at a place goes: "the later ones move up one place, in order, and the place freed holds 0"
-unfoldable pub moved-up : List ℤ → ℕ → ℕ → List ℤ
-moved-up l r at = take at l ++ slice (at + 1) r l ++ pos 0 ∷ drop r l
+-- "when a weight is taken out the later ones move up one place, in order, and the place freed holds 0"; r falls by one
+unfoldable pub taken-out : Weights → ℕ → Weights
+taken-out s at = record { places = take at (s .places) ++ slice (at + 1) (s .len) (s .places) ++ pos 0 ∷ drop (s .len) (s .places); len = s .len - 1 }
 
--- "taking one weight out"; else "the list comes back as it was"
+-- "putting a sum in changes that place only"
+unfoldable pub put-in : Weights → ℕ → ℤ → Weights
+put-in s at e = record { places = with-sum (s .places) at e; len = s .len }
+
+-- "if the place isn't among the first r, or r is above 6, or the sum doesn't fit its word, the list comes back as it was"
 unfoldable pub without-at : Weights → ℕ → Weights
-without-at s at = cond (among s at) (record { places = moved-up (s .places) (s .len) at; len = s .len - 1 }) s
+without-at s at = cond (among s at) (taken-out s at) s
 
--- "putting a sum in changes that place only"; else "the list comes back as it was"
 unfoldable pub with-sum-at : Weights → ℕ → ℤ → Weights
-with-sum-at s at e = cond (among s at && fits (getD (s .places) at (pos 0) +ℤ e)) (record { places = with-sum (s .places) at e; len = s .len }) s
+with-sum-at s at e = cond (among s at && fits (getD (s .places) at (pos 0) +ℤ e)) (put-in s at e) s

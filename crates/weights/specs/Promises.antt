@@ -2,7 +2,10 @@
 use mathlib.Core.Path.{_≡_, sym, _∙_}
 use Prim.Native.Nat.{ℕ}
 use lib.IntN.{ℤ}
-use Rattle.weights.specs.Lists.{without-at, with-sum-at}
+use Rattle.algebra.specs.Integer.{ℤ-eq}
+use Rattle.placements.specs.Multiplicity.{factorials}
+use Rattle.placements.specs.Number.{placed}
+use Rattle.weights.specs.Lists.{listed, without-at, with-sum-at}
 use Rattle.weights.specs.declared.Weights.{Weights}
 
 pub without-decides : (s : Weights) (at : ℕ) (a b : Weights) → a ≡ without-at s at → b ≡ without-at s at → a ≡ b
@@ -10,3 +13,9 @@ without-decides s at a b h k = h ∙ sym k
 
 pub with-sum-decides : (s : Weights) (at : ℕ) (e : ℤ) (a b : Weights) → a ≡ with-sum-at s at e → b ≡ with-sum-at s at e → a ≡ b
 with-sum-decides s at e a b h k = h ∙ sym k
+
+pub factorials-decides : (s : Weights) (a b : ℕ) → a ≡ factorials ℤ-eq (listed s) → b ≡ factorials ℤ-eq (listed s) → a ≡ b
+factorials-decides s a b h k = h ∙ sym k
+
+pub placements-decides : (s : Weights) (n a b : ℕ) → a ≡ placed n (listed s) → b ≡ placed n (listed s) → a ≡ b
+placements-decides s n a b h k = h ∙ sym k

@@ -1,6 +1,6 @@
--- The list's rule: the sizes of its weights add up to at most 16 · 6, so every weight in it, and every sum of some of them, is
--- from -96 to 96. A job's list has it, since each of its weights is from -16 to 16. A list that comes of it by taking a weight
--- out, and by adding that weight to another, has it too: the sum of two weights is not larger than the two together.
+-- The list's rule: the sizes of its weights add up to at most 16 · 6, so every weight in it is from -96 to 96 and sums fit their
+-- word. A job's list has it, since each of its weights is from -16 to 16. A list that comes of it by taking a weight out, and by
+-- adding that weight to another, has it too: the sum of two weights is not larger than the two together.
 use mathlib.Core.Path.{_≡_, sym, _∙_}
 use mathlib.Core.Bool.{Bool, true, false, cond}
 use mathlib.Core.List.{List, [], _∷_, _++_}
@@ -95,7 +95,7 @@ module _ (s : Weights) (b : Bounded s) (at : ℕ) (within : at < s .len) where
 
   pub rest-size : natAbs weight + size (listed rest) ≡ size (listed s)
   rest-size =
-      rw (without-listed s (b .six) (b .short) at within, ← listed-at s (b .six) (b .short) at within)
+      rw (without-listed s (b .six) (b .short) at within, ← listed-at s at within)
       (size-without (listed s) at (rw (listed-length s (b .six) (b .short)) within))
 
   pub rest-bounded : Bounded rest

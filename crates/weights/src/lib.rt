@@ -1,7 +1,14 @@
 // A weight list: at most 6 signed weights with their count r (document 01, "A job in numbers").
 // A list goes in by value and a new one comes back; the old one stays good. Every list and place is answered.
+ghost use Prim.Native.Nat.{_+_, _≤_, _<_};
 ghost use mathlib.Core.Path.{_≡_};
-ghost use Rattle.weights.specs.Lists.{without-at, with-sum-at};
+ghost use lib.IntN.{pos};
+ghost use lib.ListN.{length, drop, getD};
+ghost use Rattle.algebra.specs.Binomial.{falling};
+ghost use Rattle.algebra.specs.Integer.{ℤ-eq};
+ghost use Rattle.placements.specs.Multiplicity.{count, factorials};
+ghost use Rattle.placements.specs.Number.{placed};
+ghost use Rattle.weights.specs.Lists.{capacity, listed, among, without-at, with-sum-at};
 
 // The most weights that a list holds.
 pub const CAPACITY: usize = 6;
@@ -13,17 +20,25 @@ pub struct Weights {
 }
 
 impl Weights {
+    // Whether a place is among the first r, and r is not above 6.
+    fn has_place(self, at: usize) -> bool
+        ensures { λ r. ⌜ r ≡ among self at ⌝ }
+    {
+        let n = self.len;
+        if n > CAPACITY {
+            return false;
+        }
+        at < n
+    }
+
     // The list without the weight at a place.
     pub fn without(self, at: usize) -> Weights
         ensures { λ r. ⌜ r ≡ without-at self at ⌝ }
     {
+        if !self.has_place(at) {
+            return self;
+        }
         let n = self.len;
-        if n > CAPACITY {
-            return self;
-        }
-        if at >= n {
-            return self;
-        }
         let mut places = self.places;
         let mut i = at;
         while i + 1 < n {
@@ -41,11 +56,7 @@ impl Weights {
     pub fn with_sum(mut self, at: usize, e: i32) -> Weights
         ensures { λ r. ⌜ r ≡ with-sum-at self at e ⌝ }
     {
-        let n = self.len;
-        if n > CAPACITY {
-            return self;
-        }
-        if at >= n {
+        if !self.has_place(at) {
             return self;
         }
         let weight = self.places[at];
@@ -59,4 +70,68 @@ impl Weights {
         self.places[at] = sum as i32;
         self
     }
+
+    // How many weights the list holds: r, or all six places where r is above 6.
+    fn held(self) -> usize
+        ensures { λ r. ⌜ (r ≡ length (listed self)) × (r ≤ capacity) ⌝ }
+    {
+        let n = self.len;
+        if n < CAPACITY { n } else { CAPACITY }
+    }
+
+    // How often the weight at a place occurs behind it.
+    fn copies_behind(self, at: usize) -> u32
+        requires { ⌜ at < length (listed self) ⌝ }
+        ensures { λ r. ⌜ r ≡ count ℤ-eq (getD (listed self) at (pos 0)) (drop (at + 1) (listed self)) ⌝ }
+    {
+        let mut i = self.held();
+        let weight = self.places[at];
+        let mut copies = 0;
+        while i > at + 1 {
+            i -= 1;
+            if self.places[i] == weight {
+                copies += 1;
+            }
+        }
+        copies
+    }
+
+    // The product of m! over the different weights, m being how often each occurs: from the last weight to the first, one that
+    // has m copies behind it is the factor m + 1.
+    pub fn factorials(self) -> u32
+        ensures { λ r. ⌜ r ≡ factorials ℤ-eq (listed self) ⌝ }
+    {
+        let mut product = 1;
+        let mut at = self.held();
+        while at > 0 {
+            at -= 1;
+            product *= self.copies_behind(at) + 1;
+        }
+        product
+    }
+
+    // N, the number of placements in n positions. The division leaves nothing (`whole` of specs/Numbers.antt).
+    pub fn placements(self, n: u8) -> u64
+        ensures { λ r. ⌜ r ≡ placed n (listed self) ⌝ }
+    {
+        falling_product(n as u64, self.held() as u64) / self.factorials() as u64
+    }
+}
+
+// n (n - 1) .. (n - r + 1), from the smallest factor to the largest.
+fn falling_product(n: u64, r: u64) -> u64
+    requires { ⌜ n ≤ 255 ⌝ }
+    requires { ⌜ r ≤ capacity ⌝ }
+    ensures { λ v. ⌜ v ≡ falling n r ⌝ }
+{
+    if n < r {
+        return 0;
+    }
+    let mut product = 1;
+    let mut m = n - r;
+    while m < n {
+        m += 1;
+        product *= m;
+    }
+    product
 }

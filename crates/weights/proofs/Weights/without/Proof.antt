@@ -3,12 +3,12 @@ use mathlib.Core.Path.{_≡_, sym, _∙_}
 use Prim.Native.Nat.{_≤_, _-_, _+_}
 use native.Mathlib.Omega.{arith}
 use borrow.Author.Needs.{needs}
-use lib.IntN.{pos}
-use lib.ListN.{length, getD, length-map}
+use borrow.Author.Tests.{not-true, not-false}
+use lib.ListN.{length, length-map}
 use mir.Syntax.{w32}
 use mir.ValLaws.{toZ-ofZ}
 use Rattle.weights.specs.Lists.{capacity}
-use Rattle.weights.specs.Laws.{among-long, among-past, without-kept}
+use Rattle.weights.specs.Laws.{there-among, without-kept}
 use Rattle.weights.proofs.Moving.{moving, moving-none, moving-more, freed}
 use Rattle.weights.proofs.Weights.without.Statement.{statement}
 use Rattle.weights.proofs.Weights.without.Tie as tie
@@ -20,28 +20,25 @@ abbrev μ-loop : tie.MeasureT-loop
 μ-loop at n places₀ i₀ places i = n - i
 
 returns : tie.Need-returns Inv-loop μ-loop
-returns c = sym (without-kept _ _ (among-long _ _ (c .if1 .taken)))
-
-returns-2 : tie.Need-returns-2 Inv-loop μ-loop
-returns-2 c = sym (without-kept _ _ (among-past _ _ (c .if2 .taken)))
+returns c = sym (without-kept _ _ (sym (c .before .has-place .ensures) ∙ not-true _ (c .if1 .taken)))
 
 loop-holds : tie.Need-loop-holds Inv-loop μ-loop
 loop-holds c =
     let s = c .before .before .before in
-    (search needs, search needs, search needs, sym (length-map (s .args .self .places) _) ∙ s .good .0 .1 .1 .0 .1 .0 .1, moving-none (s .args .self .places) (s .args .at))
+    let there = there-among (s .args .self) (s .args .at) (sym (c .before .before .has-place .ensures) ∙ not-false _ (c .before .if1 .left)) in
+    (search needs, omega (arith, there), there .0, sym (length-map (s .args .self .places) _) ∙ s .good .0 .1 .1 .0 .1 .0 .1, moving-none (s .args .self .places) (s .args .at))
 
 loop-again : tie.Need-loop-again Inv-loop μ-loop
 loop-again c =
-    let s = c .before .before .before .before .before .before in
+    let a = c .before .before .before .before .before .before .args in
     let l = c .before .before .loop in
-    let v = toZ-ofZ w32 (getD (l .places) (l .i + 1) (pos 0)) (record { sfits = c .places2 .given }) in
-    (search needs, search needs, search needs, l .inv .3, moving-more (s .args .self .places) (s .args .at) (l .i) (search needs) (omega (arith, l .inv)) _ _ (omega (arith, l .inv)) (l .inv .4) v)
+    (search needs, search needs, search needs, l .inv .3, moving-more (a .self .places) (a .at) (l .i) (search needs) (omega (arith, l .inv)) _ _ (omega (arith, l .inv)) (l .inv .4) (toZ-ofZ w32 _ (record { sfits = c .places2 .given })))
 
-returns-3 : tie.Need-returns-3 Inv-loop μ-loop
-returns-3 c =
-    let s = c .before .before .before .before .before in
+returns-2 : tie.Need-returns-2 Inv-loop μ-loop
+returns-2 c =
+    let a = c .before .before .before .before .before .args in
     let l = c .before .loop in
-    freed (s .args .self) (s .args .at) (l .i) (l .places) (l .inv .3) (search needs) (search needs) (search needs) (l .inv .4)
+    freed (a .self) (a .at) (l .i) (l .places) (l .inv .3) (search needs) (search needs) (search needs) (l .inv .4)
 
 pub without-spec : {M : Type 1} → statement M
 without-spec =
@@ -49,8 +46,8 @@ without-spec =
     (tie.spec
     Inv-loop
     μ-loop
+    (λ c κs. tt)
     returns
-    returns-2
     loop-holds
     (λ c. search needs)
     (λ c. search needs)
@@ -63,4 +60,4 @@ without-spec =
     loop-again
     (λ c. search needs)
     (λ c. search needs)
-    returns-3)
+    returns-2)
