@@ -1,4 +1,5 @@
 """Running the program under test, and counting what passed."""
+import itertools
 import shlex
 import subprocess
 import sys
@@ -53,11 +54,13 @@ def output(command, data, dribble=False):
 
 
 def send_in_pieces(pipe, data, pieces=40, pause=0.0005):
-    """Short writes with pauses between them, so that the program meets short reads."""
-    step = max(7, len(data) // pieces + 1)
+    """Short writes with pauses between them, so that the program meets short reads. One piece ends
+    with the fourth line, where a job would be whole."""
+    cuts = set(range(0, len(data), max(7, len(data) // pieces + 1)))
+    cuts |= {0, sum(map(len, data.splitlines(True)[:4])), len(data)}
     try:
-        for at in range(0, len(data), step):
-            pipe.write(data[at:at + step])
+        for start, end in itertools.pairwise(sorted(cuts)):
+            pipe.write(data[start:end])
             time.sleep(pause)
     except BrokenPipeError:
         pass  # the program has read enough
