@@ -1,0 +1,25 @@
+#!/usr/bin/env python3
+"""corpus.py [--dribble] PROGRAM
+
+Runs PROGRAM (arguments may follow in the same word) on each job of the directory corpus beside
+this file and compares what it writes, byte for byte, with the answer kept there. --dribble sends
+each job through its pipe in pieces. Last line: `N passed, M failed`.
+"""
+import pathlib
+import sys
+
+import harness
+
+JOBS = pathlib.Path(__file__).resolve().parent / 'corpus'
+
+
+def run(command, dribble=False):
+    tally = harness.Tally()
+    for job in sorted(JOBS.glob('*.job')):
+        tally.equal(job.name, harness.output(command, job.read_bytes(), dribble),
+                    job.with_suffix('.out').read_bytes())
+    return tally
+
+
+if __name__ == '__main__':
+    sys.exit(run(*harness.arguments(__doc__)).finish())
