@@ -1,0 +1,5 @@
+pub mod Divisors
+pub mod Bounds
+pub mod Euclid
+pub mod Carried
+pub mod Certificates
