@@ -3,3 +3,4 @@ pub mod Bounds
 pub mod Euclid
 pub mod Carried
 pub mod Certificates
+pub mod Rows

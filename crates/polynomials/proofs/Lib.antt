@@ -1,0 +1,4 @@
+pub mod Quotient
+pub mod Fill
+pub mod Parts
+pub mod Division
