@@ -2,16 +2,15 @@
 -- tested is the definition's own product over `residues p`, place by place up to where both sides end; `reduce` carries it to
 -- the ring.
 use mathlib.Core.Path.{_≡_, refl, sym, ap, ap₂, _∙_, fun-ext}
-use mathlib.Core.Bool.{Bool, true, false, not, _&&_}
-use mathlib.Core.List.{List, [], _∷_, map, reverse}
-use Prim.Native.Nat.{ℕ, zero, suc, _+_, _-_, _≤_, _<_, _%_}
+use mathlib.Core.Bool.{Bool, true, false, _&&_}
+use mathlib.Core.List.{List, [], _∷_, map}
+use Prim.Native.Nat.{ℕ, zero, suc, _+_, _<_}
 use native.Mathlib.Decide.{decLe, ℕ-discrete}
 use native.Mathlib.Omega.{arith}
 use lib.Dec.{eqb, ltb}
-use lib.ListN.{length, getD, length-reverse, length-map, List·getD-eq-default}
-use borrow.Author.Tests.{ltb-true, eqb-true, eqb-false, not-true}
+use lib.ListN.{length, length-map}
+use borrow.Author.Tests.{ltb-true, eqb-true}
 use Rattle.algebra.specs.Ring.{Ops, Semi}
-use Rattle.algebra.specs.Ring as R
 use Rattle.algebra.specs.Power.{nat}
 use Rattle.algebra.specs.Sum.{sum}
 use Rattle.algebra.specs.Series.{series, monomial, add-at}
