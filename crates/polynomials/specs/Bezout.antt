@@ -16,7 +16,7 @@ use Rattle.residues.specs.Residues.{ring, reduce}
 use Rattle.residues.specs.Field.{field}
 use Rattle.polynomials.specs.Divisors.{Below, Divides, Coprime, Simple}
 use Rattle.polynomials.specs.Bounds.{below-zero, below-monomial, below-add, below-mul, below-neg, below-monic, below-derivative}
-use Rattle.polynomials.specs.Euclid.{Degree, degree, x-degree, divides-add, divides-mul, divides-self, divides-zero, coprime-by-bezout, not-coprime-by-divisor}
+use Rattle.polynomials.specs.Euclid.{Degree, degree, x-degree, undone, divides-add, divides-mul, divides-self, divides-zero, coprime-by-bezout, not-coprime-by-divisor}
 
 module _ {A : Type 0} (o : Ops A) where
   -- u f + v g = 1
@@ -58,9 +58,6 @@ module _ {A : Type 0} {o : Ops A} (l : Laws o) where
   twice : (x y s t : A) → x ⊕ s ⊗ y ⊕ t ⊗ y ≡ x ⊕ (s ⊕ t) ⊗ y
   twice x y s t = simp (R.semiring, l .semi)
 
-  back : (x y t : A) → x ⊕ t ⊗ y ⊕ ⊖ t ⊗ y ≡ x
-  back x y t = simp (R.ring, l, l .semi)
-
   collect : (x y t u v : A) → v ⊗ x ⊕ (u ⊕ v ⊗ t) ⊗ y ≡ u ⊗ y ⊕ v ⊗ (x ⊕ t ⊗ y)
   collect x y t u v = simp (R.semiring, l .semi)
 
@@ -70,11 +67,10 @@ module _ {A : Type 0} {o : Ops A} (l : Laws o) where
       ∙ R.add-neg l x
 
 module _ {A : Type 0} {o : Ops A} (F : Field o) where
-  open Ops (series o) using (add as _+ˢ_, mul as _*ˢ_, neg as -ˢ_)
+  open Ops (series o) using (add as _+ˢ_, mul as _*ˢ_)
 
   infixl 60 _+ˢ_
   infixl 70 _*ˢ_
-  infix 80 -ˢ_
   l : Laws o
   l = F .laws
 
@@ -137,7 +133,9 @@ module _ {A : Type 0} {o : Ops A} (F : Field o) where
             v-bound = 0;
             u-below = below-monomial o (i .0) 0;
             v-below = below-zero o;
-            one = nothing lˢ _ g ∙ fun-ext (λ k. ap (monomial o (i .0) 0 *ˢ f) (sym (zero-add k)) ∙ monomial-over (l .semi) (i .0) 0 f k ∙ unit (i .0) (R.mul-comm (l .semi) _ _ ∙ i .1) (e .above) k);
+            one = nothing lˢ _ g ∙ fun-ext (λ k.
+                ap (monomial o (i .0) 0 *ˢ f) (sym (zero-add k)) ∙ monomial-over (l .semi) (i .0) 0 f k
+                ∙ unit (i .0) (R.mul-comm (l .semi) _ _ ∙ i .1) (e .above) k);
           })
       by (inr (suc m, e)) = inr (record { divisor = f; top = suc m; some = omega arith; has-degree = e; left = divides-self (l .semi) f; right = divides-zero (l .semi) z f })
 
@@ -157,7 +155,7 @@ module _ {A : Type 0} {o : Ops A} (F : Field o) where
     top = z .top;
     some = z .some;
     has-degree = z .has-degree;
-    left = rw (back lˢ f g (r .t)) at (divides-add (l .semi) (z .right) (divides-mul (l .semi) (below-neg l (r .below)) (z .left)));
+    left = rw (undone lˢ f g (r .t)) at (divides-add (l .semi) (z .right) (divides-mul (l .semi) (below-neg l (r .below)) (z .left)));
     right = z .left;
   })
 

@@ -1,9 +1,10 @@
--- Tests that compute, on words modulo p: u f + v g = 1 for two coprime polynomials, and a divisor of two that are not. What is
--- tested is the definition's own product over `residues p`, place by place up to where both sides end; `reduce` carries it to
--- the ring.
+-- Tests that compute, on words modulo p: u f + v g = 1 shows that f and g are coprime, and a common divisor that they are not.
+-- What is tested is the definition's own product, over `residues p`, at each place up to where both sides end; `reduce` carries
+-- it to the ring. Lists of coefficients start with the constant, but for the monic f and d, which are listed as in document 01.
 use mathlib.Core.Path.{_≡_, refl, sym, ap, ap₂, _∙_, fun-ext}
-use mathlib.Core.Bool.{Bool, true, false, _&&_}
+use mathlib.Core.Bool.{Bool, true, false, _&&_, false≢true}
 use mathlib.Core.List.{List, [], _∷_, map}
+use mathlib.Core.Logic.{_↔_}
 use Prim.Native.Nat.{ℕ, zero, suc, _+_, _<_}
 use native.Mathlib.Decide.{decLe, ℕ-discrete}
 use native.Mathlib.Omega.{arith}
@@ -30,7 +31,7 @@ agree (suc n) f g = eqb (f n) (g n) && agree n f g
 
 both : (a b : Bool) → (a && b) ≡ true → (a ≡ true) × (b ≡ true)
 both true b e = (refl, e)
-both false b e = let z : _≡_ {A = ℕ} 0 1 = cc in absurd (omega arith)
+both false b e = absurd (false≢true e)
 
 agree-at : (n : ℕ) (f g : ℕ → ℕ) → agree n f g ≡ true → (k : ℕ) → k < n → f k ≡ g k
 unfolding agree
@@ -44,29 +45,53 @@ module _ (p : ℕ) where
 
   infixl 60 _+ˢ_
   infixl 70 _*ˢ_
-  -- u f + v g is 1, where f and g end before n; the constants of u and v come first
-  unfoldable pub bezout-test : ℕ → (ℕ → ℕ) → (ℕ → ℕ) → List ℕ → List ℕ → Bool
+  -- u f + v g is 1, where f ends before n and g before m
+  unfoldable pub unit-test : ℕ → ℕ → (ℕ → ℕ) → (ℕ → ℕ) → List ℕ → List ℕ → Bool
   unfolding agree residues series monomial sum poly
-  bezout-test n f g u v = agree (length u + n + (length v + n) + 1) (poly (residues p) u *ˢ f +ˢ poly (residues p) v *ˢ g) (series (residues p) .one)
+  unit-test n m f g u v =
+      agree (length u + n + (length v + m) + 1) (poly (residues p) u *ˢ f +ˢ poly (residues p) v *ˢ g) (series (residues p) .one)
 
   -- x^k + d1 x^(k-1) + .. + dk, times a, is f, where f ends before n
   unfoldable pub product-test : ℕ → (ℕ → ℕ) → List ℕ → List ℕ → Bool
   unfolding agree residues series sum poly monic
   product-test n f d a = agree (suc (length d) + length a + n) (monic (residues p) d *ˢ poly (residues p) a) f
 
-  -- it divides f and g, and is not a constant
-  unfoldable pub divisor-test : ℕ → (ℕ → ℕ) → (ℕ → ℕ) → List ℕ → List ℕ → List ℕ → Bool
+  -- it is not a constant, and with a it makes f, with b it makes g
+  unfoldable pub common-test : ℕ → ℕ → (ℕ → ℕ) → (ℕ → ℕ) → List ℕ → List ℕ → List ℕ → Bool
   unfolding product-test
-  divisor-test n f g d a b = ltb 0 (length d) && (product-test n f d a && product-test n g d b)
+  common-test n m f g d a b = ltb 0 (length d) && (product-test n f d a && product-test m g d b)
 
-  -- the two for f and its derivative
+  -- the two for listed polynomials, the constant first
+  unfoldable pub bezout-test : List ℕ → List ℕ → List ℕ → List ℕ → Bool
+  unfolding unit-test
+  bezout-test f g u v = unit-test (length f) (length g) (poly (residues p) f) (poly (residues p) g) u v
+
+  unfoldable pub divisor-test : List ℕ → List ℕ → List ℕ → List ℕ → List ℕ → Bool
+  unfolding common-test
+  divisor-test f g d a b = common-test (length f) (length g) (poly (residues p) f) (poly (residues p) g) d a b
+
+  -- and for x^n + c1 x^(n-1) + .. + cn and its derivative
   unfoldable pub simple-test : List ℕ → List ℕ → List ℕ → Bool
-  unfolding bezout-test monic derivative nat
-  simple-test c u v = bezout-test (suc (length c)) (monic (residues p) c) (derivative (residues p) (monic (residues p) c)) u v
+  unfolding unit-test monic derivative nat
+  simple-test c u v = unit-test (suc (length c)) (length c) (monic (residues p) c) (derivative (residues p) (monic (residues p) c)) u v
 
   unfoldable pub repeated-test : List ℕ → List ℕ → List ℕ → List ℕ → Bool
-  unfolding divisor-test derivative nat
-  repeated-test c d a b = divisor-test (suc (length c)) (monic (residues p) c) (derivative (residues p) (monic (residues p) c)) d a b
+  unfolding common-test derivative nat
+  repeated-test c d a b = common-test (suc (length c)) (length c) (monic (residues p) c) (derivative (residues p) (monic (residues p) c)) d a b
+
+-- what shows the mark of a polynomial
+pub data Certificate : Type 0 where
+  bezout : (u v : List ℕ) → Certificate
+  common : (d a b : List ℕ) → Certificate
+
+abbrev pub shown : Certificate → Bool
+shown (bezout u v) = true
+shown (common d a b) = false
+
+unfoldable pub mark-test : ℕ → List ℕ → Certificate → Bool
+unfolding simple-test repeated-test
+mark-test p c (bezout u v) = simple-test p c u v
+mark-test p c (common d a b) = repeated-test p c d a b
 
 module _ {p : ℕ} (h : Prime p) where
   s : Semi (ring p)
@@ -83,10 +108,10 @@ module _ {p : ℕ} (h : Prime p) where
   monic-listed : (l : List ℕ) → Stands (monic (residues p) l) (monic (ring p) (map (reduce p) l)) (suc (length l))
   monic-listed l = record { at = hom-monic (reduce-hom p) l; ends = rw (length-map l (reduce p)) at (below-monic (ring p) (map (reduce p) l)) }
 
-  derived : {f : ℕ → ℕ} {F : ℕ → Z p} {n : ℕ} → Stands f F n → Stands (derivative (residues p) f) (derivative (ring p) F) n
+  derived : {f : ℕ → ℕ} {F : ℕ → Z p} {n : ℕ} → Stands f F (suc n) → Stands (derivative (residues p) f) (derivative (ring p) F) n
   derived {f} t = record {
     at = λ k. hom-derivative (reduce-hom p) f k ∙ ap (λ F. derivative (ring p) F k) (fun-ext (t .at));
-    ends = below-derivative s (λ j q. t .ends j (omega arith));
+    ends = below-derivative s (t .ends);
   }
 
   added : {f g : ℕ → ℕ} {F G : ℕ → Z p} {n m : ℕ} → Stands f F n → Stands g G m → Stands (series (residues p) .add f g) (series (ring p) .add F G) (n + m)
@@ -108,38 +133,52 @@ module _ {p : ℕ} (h : Prime p) where
         | no q ↦ sym (t .at k) ∙ ap (reduce p) (agree-at (n + m) f g e k (omega arith)) ∙ u .at k
       ])
 
-  bezout : {f g : ℕ → ℕ} {F G : ℕ → Z p} {n : ℕ} → Stands f F n → Stands g G n → (u v : List ℕ) → bezout-test p n f g u v ≡ true → Coprime (ring p) F G
-  unfolding bezout-test
-  bezout t r u v e =
+  unit-right : {f g : ℕ → ℕ} {F G : ℕ → Z p} {n m : ℕ} → Stands f F n → Stands g G m → (u v : List ℕ) → unit-test p n m f g u v ≡ true → Coprime (ring p) F G
+  unfolding unit-test
+  unit-right t r u v e =
       coprime-by-bezout (field h) (listed u .ends) (listed v .ends)
       (same (added (multiplied (listed u) t) (multiplied (listed v) r)) one e)
     where
       one : Stands (series (residues p) .one) (series (ring p) .one) 1
       one = record { at = hom-series-one (reduce-hom p); ends = below-one (ring p) }
 
-  divides : {f : ℕ → ℕ} {F : ℕ → Z p} {n : ℕ} → Stands f F n → (d a : List ℕ) → product-test p n f d a ≡ true → Divides (ring p) (monic (ring p) (map (reduce p) d)) F
+  product-right : {f : ℕ → ℕ} {F : ℕ → Z p} {n : ℕ} → Stands f F n → (d a : List ℕ) → product-test p n f d a ≡ true → Divides (ring p) (monic (ring p) (map (reduce p) d)) F
   unfolding product-test
-  divides t d a e = record {
+  product-right t d a e = record {
     quotient = poly (ring p) (map (reduce p) a);
     bound = length a;
     below = listed a .ends;
     product = same (multiplied (monic-listed d) (listed a)) t e;
   }
 
-  divisor : {f g : ℕ → ℕ} {F G : ℕ → Z p} {n : ℕ} → Stands f F n → Stands g G n → (d a b : List ℕ) → divisor-test p n f g d a b ≡ true → Coprime (ring p) F G → ⊥
+  common-right : {f g : ℕ → ℕ} {F G : ℕ → Z p} {n m : ℕ} → Stands f F n → Stands g G m → (d a b : List ℕ) → common-test p n m f g d a b ≡ true → Coprime (ring p) F G → ⊥
+  unfolding common-test
+  common-right {f} {g} {n = n} {m = m} t r d a b e =
+      let e₁ = both (ltb 0 (length d)) (product-test p n f d a && product-test p m g d b) e in
+      let e₂ = both (product-test p n f d a) (product-test p m g d b) (e₁ .1) in
+      not-coprime-by-divisor (ltb-true 0 (length d) (e₁ .0)) (rw (length-map d (reduce p)) at (monic-degree (field h) (map (reduce p) d)))
+      (product-right t d a (e₂ .0)) (product-right r d b (e₂ .1))
+
+  pub bezout-test-right : (f g u v : List ℕ) → bezout-test p f g u v ≡ true → Coprime (ring p) (poly (ring p) (map (reduce p) f)) (poly (ring p) (map (reduce p) g))
+  unfolding bezout-test
+  bezout-test-right f g u v e = unit-right (listed f) (listed g) u v e
+
+  pub divisor-test-right : (f g d a b : List ℕ) → divisor-test p f g d a b ≡ true → Coprime (ring p) (poly (ring p) (map (reduce p) f)) (poly (ring p) (map (reduce p) g)) → ⊥
   unfolding divisor-test
-  divisor {f} {g} {n = n} t r d a b e =
-      let e₁ = both (ltb 0 (length d)) (product-test p n f d a && product-test p n g d b) e in
-      let e₂ = both (product-test p n f d a) (product-test p n g d b) (e₁ .1) in
-      not-coprime-by-divisor (ltb-true 0 (length d) (e₁ .0)) (rw (length-map d (reduce p)) at (monic-degree (field h) (map (reduce p) d))) (divides t d a (e₂ .0)) (divides r d b (e₂ .1))
+  divisor-test-right f g d a b e = common-right (listed f) (listed g) d a b e
 
   pub simple-test-right : (c u v : List ℕ) → simple-test p c u v ≡ true → Simple p c
   unfolding simple-test
-  simple-test-right c u v e = record { coprime = bezout (monic-listed c) (derived (monic-listed c)) u v e }
+  simple-test-right c u v e = record { coprime = unit-right (monic-listed c) (derived (monic-listed c)) u v e }
 
   pub repeated-test-right : (c d a b : List ℕ) → repeated-test p c d a b ≡ true → Simple p c → ⊥
   unfolding repeated-test
-  repeated-test-right c d a b e t = divisor (monic-listed c) (derived (monic-listed c)) d a b e (t .coprime)
+  repeated-test-right c d a b e t = common-right (monic-listed c) (derived (monic-listed c)) d a b e (t .coprime)
+
+  pub mark-test-right : (c : List ℕ) (k : Certificate) → mark-test p c k ≡ true → (shown k ≡ true) ↔ Simple p c
+  unfolding mark-test
+  mark-test-right c (bezout u v) e = (λ t. simple-test-right c u v e, λ s. refl)
+  mark-test-right c (common d a b) e = (λ t. absurd (false≢true t), λ s. absurd (repeated-test-right c d a b e s))
 
 prime-257 : Prime 257
 unfolding isPrime
