@@ -1,0 +1,5 @@
+pub mod Quotient
+pub mod Fill
+pub mod Reverse
+pub mod Parts
+pub mod Division

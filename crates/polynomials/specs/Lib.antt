@@ -1,0 +1,7 @@
+pub mod Divisors
+pub mod Bounds
+pub mod Euclid
+pub mod Carried
+pub mod Bezout
+pub mod Certificates
+pub mod Rows
