@@ -1,16 +1,15 @@
 -- What a weight list and the lists that it is told through have in common: the rest has the other weights, the rest with the
 -- first weight added at a place has their sum there, and the list's rule on sizes is kept by both.
 use mathlib.Core.Path.{_≡_, refl, ap, _∙_}
-use mathlib.Core.List.{List, [], _∷_, _++_}
+use mathlib.Core.List.{List, [], _∷_}
 use Prim.Native.Nat.{ℕ, _+_, _≤_, _<_}
 use native.Mathlib.Omega.{arith}
 use lib.IntN.{ℤ, pos}
 use lib.ListN.{length, getD}
-use lib.Seq.{drop-cons}
 use Rattle.placements.specs.Places.{with-sum}
 use Rattle.weights.specs.declared.Weights.{Weights}
 use Rattle.weights.specs.Lists.{listed, without-at, with-sum-at}
-use Rattle.weights.specs.Laws.{listed-length, listed-at, without-len, without-listed, with-sum-len}
+use Rattle.weights.specs.Laws.{listed-length, listed-first, without-len, with-sum-len}
 use Rattle.weights.specs.Sizes.{Bounded, rest-bounded, collision-listed, collision-bounded}
 
 -- the rest with the first weight added at a place
@@ -30,9 +29,7 @@ module _ (list : Weights) (some : 1 ≤ list .len) (b : Bounded list) where
   rest-is : Rest list (without-at list 0) (getD (list .places) 0 (pos 0))
   rest-is = record {
     shorter = omega (arith, without-len list (b .six) (b .short) 0 some);
-    whole =
-        drop-cons (listed list) 0 (pos 0) (omega (arith, listed-length list (b .six) (b .short)))
-        ∙ rw (listed-at list (b .six) (b .short) 0 some, without-listed list (b .six) (b .short) 0 some);
+    whole = listed-first list (b .six) (b .short) some;
     long = let r = rest-bounded list b 0 some in listed-length (without-at list 0) (r .six) (r .short);
     bounded = rest-bounded list b 0 some;
     meets = λ j met h e. rw e (record {
