@@ -1,0 +1,4 @@
+pub mod Search
+pub mod Numbers
+pub mod Judging
+pub mod Kept
