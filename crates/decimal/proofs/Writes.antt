@@ -22,6 +22,13 @@ wrote-then {s} {t} {l} {l₁} {l₂} {at} {p} {q} f g = record {
   place = omega (arith, f .place, g .place, length-append s t);
 }
 
+-- there is room for the first part, and then for the second
+pub room-first : (s t : List ℕ) (at n : ℕ) → at + length (s ++ t) ≤ n → at + length s ≤ n
+room-first s t at n r = omega (arith, length-append s t)
+
+pub room-then : (s t l l₁ : List ℕ) (at p : ℕ) → at + length (s ++ t) ≤ length l → Wrote s l at l₁ p → length l₁ ≡ length l → p + length t ≤ length l₁
+room-then s t l l₁ at p r w k = omega (arith, w .place, length-append s t)
+
 -- ---- a number
 module _ (l : List ℕ) (at v : ℕ) where
   pub one : v < 10 → Wrote (decimal v) l at (set l at (48 + v)) (at + 1)

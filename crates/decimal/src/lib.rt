@@ -119,17 +119,17 @@ pub fn read_signed(part: &[u8]) -> Signed
         return Signed::None;
     }
     if part[0] == 45 {
-        let Number::Value(v, c) = read_u32(&part[1..]) else {
+        let Number::Value(n, c) = read_u32(&part[1..]) else {
             return Signed::None;
         };
-        if v == 0 {
+        if n == 0 {
             return Signed::None;
         }
-        if 999 < v {
+        if 999 < n {
             return Signed::None;
         }
         let at = c.at;
-        return Signed::Of(minus(v), Cursor { at: at + 1 });
+        return Signed::Of(minus(n), Cursor { at: at + 1 });
     }
     let Number::Value(v, c) = read_u32(part) else {
         return Signed::None;

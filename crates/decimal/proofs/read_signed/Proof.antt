@@ -29,8 +29,8 @@ part-read-u32-end c = search needs
 read-u32-requires : tie.Need-read-u32-requires
 read-u32-requires c κs = search needs
 
-enum-known-v : tie.Need-enum-known-v
-enum-known-v c = search needs
+enum-known-n : tie.Need-enum-known-n
+enum-known-n c = search needs
 
 enum-told : tie.Need-enum-told
 enum-told c = search needs
@@ -48,7 +48,7 @@ minus-requires : tie.Need-minus-requires
 minus-requires c κs = search needs
 
 add-t13 : tie.Need-add-t13
-add-t13 c = let h : c .before .before .before .before .v .given .0 .1 .0 .at + 1 ≤ length (c .before .before .before .before .before .before .before .before .before .before .before .before .args .part .now) = search steps.room in omega arith
+add-t13 c = let h : c .before .before .before .before .n .given .0 .1 .0 .at + 1 ≤ length (c .before .before .before .before .before .before .before .before .before .before .before .before .args .part .now) = search steps.room in omega arith
 
 returns-5 : tie.Need-returns-5
 returns-5 c = search steps.minus-good
@@ -56,8 +56,8 @@ returns-5 c = search steps.minus-good
 read-u32-requires-2 : tie.Need-read-u32-requires-2
 read-u32-requires-2 c κs = search needs
 
-enum-known-v-2 : tie.Need-enum-known-v-2
-enum-known-v-2 c = search needs
+enum-known-v : tie.Need-enum-known-v
+enum-known-v c = search needs
 
 enum-told-2 : tie.Need-enum-told-2
 enum-told-2 c = search needs
@@ -84,7 +84,7 @@ read-signed-spec =
     part-read-u32-start
     part-read-u32-end
     read-u32-requires
-    enum-known-v
+    enum-known-n
     enum-told
     returns-2
     returns-3
@@ -93,7 +93,7 @@ read-signed-spec =
     add-t13
     returns-5
     read-u32-requires-2
-    enum-known-v-2
+    enum-known-v
     enum-told-2
     returns-6
     returns-7

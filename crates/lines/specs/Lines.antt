@@ -1,0 +1,23 @@
+-- The lines of document 01's records: "Lines end with one line feed".
+use Prim.Native.Nat.{ℕ}
+use Prim.Native.Char.{code}
+use Prim.Native.String.{String, [] as none, _∷_ as _then_}
+use mathlib.Core.List.{List, [], _∷_, _++_}
+use Rattle.decimal.specs.Spelling.{decimal, line}
+
+-- a text's characters as bytes
+unfoldable pub bytes : String → List ℕ
+bytes none = []
+bytes (c then s) = code c ∷ bytes s
+
+-- a key, a number and a line feed
+abbrev pub number-line : List ℕ → ℕ → List ℕ
+number-line key n = key ++ (decimal n ++ (10 ∷ []))
+
+-- a key, and a list with its line feed
+abbrev pub list-line : {A : Type 0} → (A → List ℕ) → List ℕ → List A → List ℕ
+list-line spell key xs = key ++ line spell xs
+
+-- "the one line `refused=` with the number"
+unfoldable pub refused-line : ℕ → List ℕ
+refused-line n = number-line (bytes "refused=") n
