@@ -25,8 +25,8 @@ rest-is t at = take-all (length t - at) (drop at t) (omega (arith, length-drop a
 pub number-is : (t : List ℕ) (at v : ℕ) (c : Cursor) (r : Number) → r ≡ read-number (rest t at) → r ≡ Value v c → number (drop at t) ≡ got v (c .at)
 number-is t at v c r e f = rw (← rest-is t at, ← e, f)
 
-pub number-bad : (t : List ℕ) (at : ℕ) (r : Number) → r ≡ read-number (rest t at) → r ≡ Bad → number (drop at t) ≡ bad
-number-bad t at r e f = rw (← rest-is t at, ← e, f)
+pub number-none : (t : List ℕ) (at : ℕ) (r : Number) → r ≡ read-number (rest t at) → r ≡ Bad → number (drop at t) ≡ bad
+number-none t at r e f = rw (← rest-is t at, ← e, f)
 
 module _ {A : Type 0} (item : List ℕ → Got A) (cap : ℕ) (t : List ℕ) (out : List A) (n at : ℕ)
     (so : read-list item cap t ≡ more-items item (cap - n) (drop at t) (take n out) at) (lo : length out ≡ cap) where

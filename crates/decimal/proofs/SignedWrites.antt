@@ -12,7 +12,7 @@ use lib.Seq.{drop-cons}
 use mir.Syntax.{w32}
 use mir.Val.{SFits, toZ, ofZ}
 use mir.ValLaws.{toZ-ofZ}
-use borrow.Author.Tests.{leb-true}
+use borrow.Author.Tests.{leb-true, le-leb}
 use Rattle.decimal.specs.Spelling.{Each, Small, decimal, line, signed}
 use Rattle.decimal.specs.Written.{Wrote, all-small, negative, separator-of}
 use Rattle.decimal.proofs.Writes.{wrote-byte, wrote-then}
@@ -93,3 +93,7 @@ module _ (xs : List ℤ) (i : ℕ) (so : all-small xs ≡ all-small (drop i xs))
 
     pub all-not : b ≡ false → false ≡ all-small xs
     all-not f = rw (so, drop-cons xs i (pos 0), here, f)
+
+pub each-all-small : (zs : List ℤ) → Each Small zs → all-small zs ≡ true
+each-all-small [] a = refl
+each-all-small (z ∷ zs) a = rw (le-leb _ _ (a .0)) (each-all-small zs (a .1))

@@ -20,14 +20,14 @@ pub record Front (l t : List ℕ) (i : ℕ) : Type 0 where
   pub place : i ≡ length l
 
 -- what is written reads as what was written where it ends, and what is read was written
-pub record Reads {A : Type 0} (Ok : A → Type 0) (spell : A → List ℕ) (item : List ℕ → Got A) : Type 0 where
+pub record Scans {A : Type 0} (Ok : A → Type 0) (spell : A → List ℕ) (item : List ℕ → Got A) : Type 0 where
   pub complete : (v : A) (t : List ℕ) → Ok v → Ends t → item (spell v ++ t) ≡ got v (length (spell v))
   pub sound : (t : List ℕ) (v : A) (i : ℕ) → item t ≡ got v i → Front (spell v) t i × Ok v
 
 pub never-got : {A : Type 0} {v : A} {i : ℕ} → _≡_ {A = Got A} bad (got v i) → ⊥
 never-got h = let z : _≡_ {A = ℕ} 0 1 = cc in omega arith
 
-module _ {A : Type 0} (Ok : A → Type 0) (spell : A → List ℕ) (item : List ℕ → Got A) (R : Reads Ok spell item) where
+module _ {A : Type 0} (Ok : A → Type 0) (spell : A → List ℕ) (item : List ℕ → Got A) (R : Scans Ok spell item) where
   -- ---- what is written is read
   items-complete : (xs : List A) (x : A) (k : ℕ) (t : List ℕ) (acc : List A) (at : ℕ) → length xs < k → Ok x → Each Ok xs →
       more-items item k (spell x ++ (after spell xs ++ t)) acc at ≡ got (acc ++ (x ∷ xs)) (at + length (spell x ++ after spell xs))
@@ -135,7 +135,7 @@ number-sound t n i (Value v c) e h =
     rw (← a, ← b) (record { behind = drop (c .at) t; whole = s .front; place = s .place }, s .small)
 number-sound t n i Bad e h = absurd (never-got h)
 
-pub numbers : Reads Word decimal number
+pub numbers : Scans Word decimal number
 numbers = record {
   complete = λ v t o h. rw (reads v t o h);
   sound = λ t v i h. number-sound t v i (read-number t) refl h;

@@ -13,7 +13,7 @@ use borrow.Author.Tests.{lt-ltb, le-ltb, ne-eqb}
 use Rattle.decimal.specs.Spelling.{Small, decimal, signed}
 use Rattle.decimal.specs.Scan.{Got, and-then, bad, digit-of, got, number, signed-number}
 use Rattle.decimal.specs.NumberLaws.{Ends, decimal-starts}
-use Rattle.decimal.specs.ListLaws.{Front, Reads, never-got, numbers}
+use Rattle.decimal.specs.ListLaws.{Front, Scans, never-got, numbers}
 
 complete : (z : ℤ) (t : List ℕ) → Small z → Ends t → signed-number (signed z ++ t) ≡ got z (length (signed z))
 unfolding signed-number signed digit-of
@@ -61,5 +61,5 @@ sound (b ∷ t) z i h = elim (ℕ-discrete b 45) [
   | no p ↦ plus-sound (b ∷ t) z i (number (b ∷ t)) refl (rw (ne-eqb _ _ p) at h)
 ]
 
-pub signed-numbers : Reads Small signed signed-number
+pub signed-numbers : Scans Small signed signed-number
 signed-numbers = record { complete = complete; sound = sound }

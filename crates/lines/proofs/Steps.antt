@@ -14,7 +14,7 @@ use Rattle.decimal.specs.declared.Listed.the-variants.{None, Of}
 use Rattle.decimal.specs.declared.Number.{Number}
 use Rattle.decimal.specs.declared.Number.the-variants.{Bad, Value}
 use Rattle.decimal.specs.Scan.{Filled, Got, and-then, bad, got, number, read-list, read-number}
-use Rattle.decimal.specs.ListLaws.{Reads}
+use Rattle.decimal.specs.ListLaws.{Scans}
 use Rattle.decimal.proofs.ListSteps.{rest, rest-is}
 use Rattle.lines.specs.Scan.{as-number, keyed, one-line, starts}
 use Rattle.lines.specs.Laws.{lines, starts-sound, within}
@@ -58,6 +58,20 @@ module _ (key t : List ℕ) (b : Bool) (s : b ≡ starts key t) where
 
       pub line-good : getD (rest t (length key)) (c .at) 0 ≡ 10 → Value v (record { at = length key + (c .at + 1) }) ≡ as-number (keyed key (one-line number) t)
       line-good h = rw (← s, f, read, g, ← rest-is t (length key), h)
+
+-- what the scanner found, from what the code answered
+pub number-got : (g : Got ℕ) (r : Number) (v : ℕ) (c : Cursor) → r ≡ as-number g → r ≡ Value v c → g ≡ got v (c .at)
+number-got (got u i) r v c e f =
+    let q : Value u (record { at = i }) ≡ Value v c = sym e ∙ f in
+    let w : record { at = i } ≡ c = cc in
+    let b : i ≡ c .at = ap (λ (x : Cursor). x .at) w in
+    let a : u ≡ v = cc in
+    rw (a, b)
+number-got bad r v c e f = absurd (let n : _≡_ {A = ℕ} 0 1 = cc in omega arith)
+
+pub number-bad : (g : Got ℕ) (r : Number) → r ≡ as-number g → r ≡ Bad → g ≡ bad
+number-bad (got u i) r e f = absurd (let n : _≡_ {A = ℕ} 0 1 = cc in omega arith)
+number-bad bad r e f = refl
 
 -- ---- a key and a list
 never-of : {n : ℕ} {c : Cursor} {r : Listed} → r ≡ None → r ≡ Of n c → ⊥
@@ -110,7 +124,7 @@ module _ {A : Type 0} where
       pub lines-of : (n : ℕ) (c : Cursor) → r ≡ Of n c → Filled (keyed key (read-list item cap) t) (Of n (record { at = length key + c .at })) out
       lines-of n c g = rw (← s, f, ← rest-is t (length key)) (shift-of (read-list item cap (rest t (length key))) r n c (length key) out e g)
 
-      pub lines-room : {Ok : A → Type 0} {spell : A → List ℕ} → Reads Ok spell item → (n : ℕ) (c : Cursor) → r ≡ Of n c → length key + c .at ≤ length t
+      pub lines-room : {Ok : A → Type 0} {spell : A → List ℕ} → Scans Ok spell item → (n : ℕ) (c : Cursor) → r ≡ Of n c → length key + c .at ≤ length t
       lines-room R n c g =
           let w : read-list item cap (rest t (length key)) ≡ got (take n out) (c .at) = filled-got _ r n c out e g in
           omega (arith, within (lines R cap) _ _ _ w, ap length (rest-is t (length key)), length-drop (length key) t, key-fits key t b s f)

@@ -8,9 +8,10 @@ use native.Mathlib.Decide.{decLt, ℕ-discrete}
 use lib.ListN.{length, getD, drop, length-append, List·getD-eq-default}
 use lib.Seq.{drop-cons, drop-append-seam, getD-append-seam}
 use borrow.Author.Tests.{eq-eqb, ne-eqb}
-use Rattle.decimal.specs.Spelling.{Each, line}
+use Rattle.decimal.specs.Spelling.{line}
 use Rattle.decimal.specs.Scan.{Got, bad, digit-of, got, read-list}
-use Rattle.decimal.specs.ListLaws.{Front, Reads, line-complete, line-sound, never-got}
+use Rattle.decimal.specs.ListLaws.{Front, Scans, line-complete, line-sound, never-got}
+use Rattle.lines.specs.Lines.{Counted}
 use Rattle.lines.specs.Scan.{both, keyed, one-line, starts}
 
 -- what is written is read, whatever stands behind it, and what is read was written
@@ -44,20 +45,15 @@ pub within : {A : Type 0} {Ok : A → Type 0} {render : A → List ℕ} {scan : 
 within E t v i h = front-within _ t i (E .sound t v i h .0)
 
 -- ---- a list line
-pub record Counted {A : Type 0} (Ok : A → Type 0) (k : ℕ) (xs : List A) : Type 0 where
-  pub each : Each Ok xs
-  pub least : 0 < length xs
-  pub most : length xs ≤ k
-
-module _ {A : Type 0} {Ok : A → Type 0} {spell : A → List ℕ} {item : List ℕ → Got A} (R : Reads Ok spell item) where
+module _ {A : Type 0} {Ok : A → Type 0} {spell : A → List ℕ} {item : List ℕ → Got A} (R : Scans Ok spell item) where
   pub lines : (k : ℕ) → Exact (Counted Ok k) (line spell) (read-list item k)
   lines k = record {
-    complete = λ xs t o. line-complete Ok spell item R xs k t (o .least) (o .most) (o .each);
-    sound = λ t xs i h. let s = line-sound Ok spell item R k t xs i h in (s .0, record { each = s .1; least = s .2; most = s .3 });
+    complete = λ xs t o. line-complete Ok spell item R xs k t (o .at-least) (o .at-most) (o .each);
+    sound = λ t xs i h. let s = line-sound Ok spell item R k t xs i h in (s .0, record { each = s .1; at-least = s .2; at-most = s .3 });
   }
 
 -- ---- a line of one item
-module _ {A : Type 0} {Ok : A → Type 0} {spell : A → List ℕ} {item : List ℕ → Got A} (R : Reads Ok spell item) where
+module _ {A : Type 0} {Ok : A → Type 0} {spell : A → List ℕ} {item : List ℕ → Got A} (R : Scans Ok spell item) where
   one-sound : (t : List ℕ) (v : A) (i : ℕ) (g : Got A) → item t ≡ g → one-line item t ≡ got v i → Front (spell v ++ (10 ∷ [])) t i × Ok v
   one-sound t v i bad e h = absurd (never-got (rw e at h))
   one-sound t v i (got u j) e h = elim (ℕ-discrete (getD t j 0) 10) [
@@ -92,7 +88,7 @@ starts-sound (k ∷ key) (b ∷ t) h = elim (ℕ-discrete k b) [
   | no p ↦ absurd (never-true (rw (ne-eqb k b p) at h))
 ]
 
-starts-front : (key t : List ℕ) → starts key t ≡ true → Front key t (length key)
+pub starts-front : (key t : List ℕ) → starts key t ≡ true → Front key t (length key)
 starts-front key t h = record { behind = drop (length key) t; whole = starts-sound key t h; place = refl }
 
 module _ {A : Type 0} {Ok : A → Type 0} {render : A → List ℕ} {scan : List ℕ → Got A} (key : List ℕ) (E : Exact Ok render scan) where

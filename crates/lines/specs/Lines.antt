@@ -1,9 +1,10 @@
 -- The lines of document 01's records: "Lines end with one line feed".
-use Prim.Native.Nat.{ℕ}
+use Prim.Native.Nat.{ℕ, _≤_, _<_}
 use Prim.Native.Char.{code}
 use Prim.Native.String.{String, [] as none, _∷_ as _then_}
 use mathlib.Core.List.{List, [], _∷_, _++_}
-use Rattle.decimal.specs.Spelling.{decimal, line}
+use lib.ListN.{length}
+use Rattle.decimal.specs.Spelling.{Each, decimal, line}
 
 -- a text's characters as bytes
 unfoldable pub bytes : String → List ℕ
@@ -17,6 +18,12 @@ number-line key n = key ++ (decimal n ++ (10 ∷ []))
 -- a key, and a list with its line feed
 abbrev pub list-line : {A : Type 0} → (A → List ℕ) → List ℕ → List A → List ℕ
 list-line spell key xs = key ++ line spell xs
+
+-- "1 to most numbers", each of which may stand in the list
+pub record Counted {A : Type 0} (Ok : A → Type 0) (most : ℕ) (xs : List A) : Type 0 where
+  pub each : Each Ok xs
+  pub at-least : 0 < length xs
+  pub at-most : length xs ≤ most
 
 -- "the one line `refused=` with the number"
 unfoldable pub refused-line : ℕ → List ℕ
