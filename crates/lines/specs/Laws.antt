@@ -1,18 +1,18 @@
 -- What is written is read, and what is read was written: for a key in front, a line feed behind, one line behind the other. Each law is made of the laws of its parts.
 use Prim.Native.Nat.{ℕ, suc, _+_, _-_, _≤_, _<_}
 use mathlib.Core.Path.{_≡_, refl, sym, _∙_, ap, ap₂}
-use mathlib.Core.Bool.{Bool, true, false}
+use mathlib.Core.Bool.{Bool, true, false, cond}
 use mathlib.Core.List.{List, [], _∷_, _++_, append-assoc}
 use native.Mathlib.Omega.{arith}
 use native.Mathlib.Decide.{decLt, ℕ-discrete}
 use lib.ListN.{length, getD, drop, length-append, List·getD-eq-default}
 use lib.Seq.{drop-cons, drop-append-seam, getD-append-seam}
 use borrow.Author.Tests.{eq-eqb, ne-eqb}
-use Rattle.decimal.specs.Spelling.{line}
+use Rattle.decimal.specs.Spelling.{Word, line}
 use Rattle.decimal.specs.Scan.{Got, bad, digit-of, got, read-list}
-use Rattle.decimal.specs.ListLaws.{Front, Scans, line-complete, line-sound, never-got}
-use Rattle.lines.specs.Lines.{Counted}
-use Rattle.lines.specs.Scan.{both, keyed, one-line, starts}
+use Rattle.decimal.specs.ListLaws.{Front, Scans, line-complete, line-sound, never-got, numbers}
+use Rattle.lines.specs.Lines.{Counted, bytes, head-text, mark-text}
+use Rattle.lines.specs.Scan.{both, head, keyed, mark, one-line, starts}
 
 -- what is written is read, whatever stands behind it, and what is read was written
 pub record Exact {A : Type 0} (Ok : A → Type 0) (render : A → List ℕ) (scan : List ℕ → Got A) : Type 0 where
@@ -129,3 +129,36 @@ module _ {A B : Type 0} {Ok : A → Type 0} {Ok′ : B → Type 0} {render : A �
     complete = λ v t o. rw (append-assoc, E .complete (v .0) _ (o .0), drop-append-seam, F .complete (v .1) t (o .1), length-append);
     sound = λ t v i h. first-sound t v i (first t) refl h;
   }
+
+-- ---- the first two lines of either record, and the mark
+pub heads : Exact (λ (v : ℕ × ℕ). Word (v .0) × Word (v .1)) (λ v. head-text (v .0) (v .1)) head
+unfolding head head-text
+heads = boths (keyeds (bytes "modulus=") (one-lines numbers)) (keyeds (bytes "degree=") (one-lines numbers))
+
+no-is-not-yes : (t : List ℕ) → starts (mark-text true) (mark-text false ++ t) ≡ false
+unfolding mark-text bytes
+no-is-not-yes t = refl
+
+mark-complete : (b : Bool) (t : List ℕ) → mark (mark-text b ++ t) ≡ got b (length (mark-text b))
+unfolding mark
+mark-complete true t = rw (starts-complete (mark-text true) t)
+mark-complete false t = rw (no-is-not-yes t, starts-complete (mark-text false) t)
+
+mark-sound : (t : List ℕ) (b : Bool) (i : ℕ) (x y : Bool) → starts (mark-text true) t ≡ x → starts (mark-text false) t ≡ y →
+    cond x (got true (length (mark-text true))) (cond y (got false (length (mark-text false))) bad) ≡ got b i → Front (mark-text b) t i × Unit {0}
+mark-sound t b i true y e f h =
+    let p : true ≡ b = cc in
+    let q : length (mark-text true) ≡ i = cc in
+    rw (← p, ← q) (starts-front (mark-text true) t e, tt)
+mark-sound t b i false true e f h =
+    let p : false ≡ b = cc in
+    let q : length (mark-text false) ≡ i = cc in
+    rw (← p, ← q) (starts-front (mark-text false) t f, tt)
+mark-sound t b i false false e f h = absurd (never-got h)
+
+pub marks : Exact (λ (b : Bool). Unit {0}) mark-text mark
+unfolding mark
+marks = record {
+  complete = λ b t o. mark-complete b t;
+  sound = λ t b i h. mark-sound t b i (starts (mark-text true) t) (starts (mark-text false) t) refl refl h;
+}

@@ -6,7 +6,12 @@ use lib.Dec.{eqb}
 use lib.ListN.{length, getD, drop}
 use Rattle.decimal.specs.declared.Number.{Number}
 use Rattle.decimal.specs.declared.Number.the-variants.{Bad}
-use Rattle.decimal.specs.Scan.{Got, and-then, bad, got, value}
+use Rattle.decimal.specs.Scan.{Got, and-then, bad, got, number, value}
+use Rattle.lines.specs.declared.Head.{Head}
+use Rattle.lines.specs.declared.Mark.{Mark}
+use Rattle.lines.specs.Lines.{bytes, mark-text}
+use Rattle.lines.specs.declared.Head.the-variants as heads
+use Rattle.lines.specs.declared.Mark.the-variants as marks
 
 abbrev pub starts : List ℕ → List ℕ → Bool
 starts [] t = true
@@ -32,3 +37,21 @@ module _ {A B : Type 0} (first : List ℕ → Got A) (second : List ℕ → Got 
 abbrev pub as-number : Got ℕ → Number
 as-number (got v i) = value v i
 as-number bad = Bad
+
+-- ---- the first two lines of either record, and the mark
+unfoldable pub head : List ℕ → Got (ℕ × ℕ)
+head = both (keyed (bytes "modulus=") (one-line number)) (keyed (bytes "degree=") (one-line number))
+
+unfoldable pub mark : List ℕ → Got Bool
+mark t =
+    cond (starts (mark-text true) t) (got true (length (mark-text true)))
+    (cond (starts (mark-text false) t) (got false (length (mark-text false))) bad)
+
+-- the code's answers for these
+abbrev pub as-head : Got (ℕ × ℕ) → Head
+as-head (got v i) = heads.Of (v .0) (v .1) (record { at = i })
+as-head bad = heads.None
+
+abbrev pub as-mark : Got Bool → Mark
+as-mark (got b i) = marks.Of b (record { at = i })
+as-mark bad = marks.None

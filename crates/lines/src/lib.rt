@@ -5,11 +5,23 @@ ghost use lib.ListN.{length};
 ghost use Rattle.decimal.specs.Spelling.{decimal, signed, Small, Each};
 ghost use Rattle.decimal.specs.Scan.{number, signed-number, read-list, Filled};
 ghost use Rattle.decimal.specs.Written.{Wrote};
-ghost use Rattle.lines.specs.Lines.{number-line, list-line, refused-line};
-ghost use Rattle.lines.specs.Scan.{starts, one-line, keyed, as-number};
+ghost use Rattle.lines.specs.Lines.{number-line, list-line, refused-line, head-text, mark-text};
+ghost use Rattle.lines.specs.Scan.{starts, one-line, keyed, as-number, head, mark, as-head, as-mark};
 use decimal::Cursor;
 use decimal::Listed;
 use decimal::Number;
+
+// The first two lines: modulus, degree and the place behind them.
+pub enum Head {
+    Of(u32, u32, Cursor),
+    None,
+}
+
+// The line of the mark, and the place behind it.
+pub enum Mark {
+    Of(bool, Cursor),
+    None,
+}
 
 // Whether the text starts with the key.
 pub fn has_key(text: &[u8], key: &[u8]) -> bool
@@ -127,4 +139,68 @@ pub fn write_refused(out: &mut [u8], code: u32) -> usize
     ensures { λ r. ⌜ Wrote (refused-line code) (now (out .entry)) 0 (now (out .exit)) r ⌝ }
 {
     write_number_line(out, 0, b"refused=", code)
+}
+
+// Reads the first two lines.
+pub fn read_head(text: &[u8]) -> Head
+    ensures { λ r. ⌜ r ≡ as-head (head (now (text .entry))) ⌝ }
+{
+    let Number::Value(modulus, c) = read_number_line(text, b"modulus=") else {
+        return Head::None;
+    };
+    let at = c.at;
+    let Number::Value(degree, d) = read_number_line(&text[at..], b"degree=") else {
+        return Head::None;
+    };
+    let next = d.at;
+    Head::Of(modulus, degree, Cursor { at: at + next })
+}
+
+// Reads the line of the mark.
+pub fn read_mark(text: &[u8]) -> Mark
+    ensures { λ r. ⌜ r ≡ as-mark (mark (now (text .entry))) ⌝ }
+{
+    if has_key(text, b"simple=yes\n") {
+        return Mark::Of(true, Cursor { at: 11 });
+    }
+    if has_key(text, b"simple=no\n") {
+        return Mark::Of(false, Cursor { at: 10 });
+    }
+    Mark::None
+}
+
+pub fn head_len(modulus: u32, degree: usize) -> usize
+    requires { ⌜ degree ≤ 1024 ⌝ }
+    ensures { λ r. ⌜ (r ≡ length (head-text modulus degree)) × (r ≤ 4294968340) ⌝ }
+{
+    let a = 8 + (decimal::width(modulus) + 1);
+    a + (7 + (decimal::width(degree as u32) + 1))
+}
+
+// Writes the first two lines at the front of out, which has room for them, and answers the place behind them.
+pub fn write_head(out: &mut [u8], modulus: u32, degree: usize) -> usize
+    requires { ⌜ (degree ≤ 1024) × (0 + length (head-text modulus degree) ≤ length (now out)) ⌝ }
+    ensures { λ r. ⌜ Wrote (head-text modulus degree) (now (out .entry)) 0 (now (out .exit)) r ⌝ }
+{
+    let at = write_number_line(out, 0, b"modulus=", modulus);
+    write_number_line(out, at, b"degree=", degree as u32)
+}
+
+pub fn mark_len(simple: bool) -> usize
+    ensures { λ r. ⌜ (r ≡ length (mark-text simple)) × (r ≤ 11) ⌝ }
+{
+    if simple {
+        return 11;
+    }
+    10
+}
+
+pub fn write_mark(out: &mut [u8], at: usize, simple: bool) -> usize
+    requires { ⌜ at + length (mark-text simple) ≤ length (now out) ⌝ }
+    ensures { λ r. ⌜ Wrote (mark-text simple) (now (out .entry)) at (now (out .exit)) r ⌝ }
+{
+    if simple {
+        return write_bytes(out, at, b"simple=yes\n");
+    }
+    write_bytes(out, at, b"simple=no\n")
 }

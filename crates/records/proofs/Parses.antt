@@ -14,12 +14,12 @@ use Rattle.decimal.specs.Scan.{Filled, Got, bad, got, number, read-list, signed
 use Rattle.decimal.proofs.Steps.{start}
 use Rattle.decimal.proofs.ListSteps.{rest, rest-is}
 use Rattle.lines.specs.Lines.{bytes}
-use Rattle.lines.specs.Scan.{both, keyed}
+use Rattle.lines.specs.Scan.{both, head, keyed, mark}
 use Rattle.records.specs.declared.AnswerRead.{AnswerRead}
 use Rattle.records.specs.declared.JobRead.{JobRead}
 use Rattle.records.specs.Records.{answer, job}
 use Rattle.records.specs.Promises.{no-answer, no-job}
-use Rattle.records.specs.Scan.{AnswerParsed, JobParsed, answer-count, answer-made, coeffs-line, head, job-count, job-made, mark, read-answer, read-job, read-record, weights-line}
+use Rattle.records.specs.Scan.{AnswerParsed, JobParsed, answer-count, answer-made, coeffs-line, job-count, job-made, read-answer, read-job, read-record, weights-line}
 
 -- a line read at the front of a text, and the part behind it
 pub record Line {A : Type 0} (scan : List ℕ → Got A) (t : List ℕ) : Type 0 where

@@ -13,9 +13,9 @@ use Rattle.decimal.specs.Spelling.{Each, Word, decimal, line, signed}
 use Rattle.decimal.specs.Written.{Wrote, all-small}
 use Rattle.decimal.proofs.Writes.{room-first, room-then}
 use Rattle.decimal.proofs.SignedWrites.{all-small-each, each-all-small}
-use Rattle.lines.specs.Lines.{bytes, list-line}
+use Rattle.lines.specs.Lines.{bytes, head-text, list-line, mark-text}
 use Rattle.lines.specs.Laws.{never-true}
-use Rattle.records.specs.Records.{AnswerHolds, JobHolds, answer, answer-text, head-text, job, job-text, mark-text}
+use Rattle.records.specs.Records.{AnswerHolds, JobHolds, answer, answer-text, job, job-text}
 
 -- ---- which values
 each-word : (xs : List ℕ) → ((i : ℕ) → Fits w32 (getD xs i 0)) → Each Word xs

@@ -1,7 +1,6 @@
 -- The scanners read exactly the records: what is written is read, and what is read was written. Made of the laws of the lines.
 use Prim.Native.Nat.{ℕ}
 use mathlib.Core.Path.{_≡_, refl, _∙_, ap}
-use mathlib.Core.Bool.{Bool, true, false, cond}
 use mathlib.Core.Option.{Option, some, none}
 use mathlib.Core.List.{List, [], _∷_, _++_, append-nil}
 use native.Mathlib.Omega.{arith}
@@ -10,24 +9,20 @@ use lib.ListN.{length, length-append}
 use borrow.Author.Tests.{eq-eqb, ne-eqb}
 use Rattle.decimal.specs.Spelling.{Small, Word, decimal, signed}
 use Rattle.decimal.specs.Scan.{Got, bad, got}
-use Rattle.decimal.specs.ListLaws.{Front, never-got, numbers}
+use Rattle.decimal.specs.ListLaws.{Front, numbers}
 use Rattle.decimal.specs.SignedLaws.{signed-numbers}
-use Rattle.lines.specs.Lines.{Counted, bytes, list-line}
-use Rattle.lines.specs.Scan.{both, starts}
-use Rattle.lines.specs.Laws.{Exact, boths, keyeds, lines, one-lines, starts-complete, starts-front}
-use Rattle.records.specs.Records.{AnswerHolds, JobHolds, answer-text, head-text, job-text, mark-text}
-use Rattle.records.specs.Scan.{answer-count, answer-made, coeffs-line, finish, head, job-count, job-made, mark, read-answer, read-job, read-record, weights-line}
+use Rattle.lines.specs.Lines.{Counted, bytes, head-text, list-line}
+use Rattle.lines.specs.Scan.{both, head}
+use Rattle.lines.specs.Laws.{Exact, boths, heads, keyeds, lines, marks}
+use Rattle.records.specs.Records.{AnswerHolds, JobHolds, answer-text, job-text}
+use Rattle.records.specs.Scan.{answer-count, answer-made, coeffs-line, finish, job-count, job-made, read-answer, read-job, read-record, weights-line}
 
 -- a scanner of whole texts reads exactly the texts of the values that a record can hold
 pub record Whole {X : Type 0} (Holds : X → Type 0) (text : X → List ℕ) (scan : List ℕ → Option X) : Type 0 where
   pub complete : (v : X) → Holds v → scan (text v) ≡ some v
   pub sound : (t : List ℕ) (v : X) → scan t ≡ some v → Holds v × (t ≡ text v)
 
--- ---- the head, the mark, the lists
-pub heads : Exact (λ (v : ℕ × ℕ). Word (v .0) × Word (v .1)) (λ v. head-text (v .0) (v .1)) head
-unfolding head head-text
-heads = boths (keyeds (bytes "modulus=") (one-lines numbers)) (keyeds (bytes "degree=") (one-lines numbers))
-
+-- ---- the lists
 pub coeffs-lines : (most : ℕ) → Exact (Counted Word most) (list-line decimal (bytes "coeffs=")) (coeffs-line most)
 unfolding coeffs-line
 coeffs-lines most = keyeds (bytes "coeffs=") (lines numbers most)
@@ -35,34 +30,6 @@ coeffs-lines most = keyeds (bytes "coeffs=") (lines numbers most)
 pub weights-lines : Exact (Counted Small 64) (list-line signed (bytes "weights=")) weights-line
 unfolding weights-line
 weights-lines = keyeds (bytes "weights=") (lines signed-numbers 64)
-
-no-is-not-yes : (t : List ℕ) → starts (mark-text true) (mark-text false ++ t) ≡ false
-unfolding mark-text bytes
-no-is-not-yes t = refl
-
-mark-complete : (b : Bool) (t : List ℕ) → mark (mark-text b ++ t) ≡ got b (length (mark-text b))
-unfolding mark
-mark-complete true t = rw (starts-complete (mark-text true) t)
-mark-complete false t = rw (no-is-not-yes t, starts-complete (mark-text false) t)
-
-mark-sound : (t : List ℕ) (b : Bool) (i : ℕ) (x y : Bool) → starts (mark-text true) t ≡ x → starts (mark-text false) t ≡ y →
-    cond x (got true (length (mark-text true))) (cond y (got false (length (mark-text false))) bad) ≡ got b i → Front (mark-text b) t i × Unit {0}
-mark-sound t b i true y e f h =
-    let p : true ≡ b = cc in
-    let q : length (mark-text true) ≡ i = cc in
-    rw (← p, ← q) (starts-front (mark-text true) t e, tt)
-mark-sound t b i false true e f h =
-    let p : false ≡ b = cc in
-    let q : length (mark-text false) ≡ i = cc in
-    rw (← p, ← q) (starts-front (mark-text false) t f, tt)
-mark-sound t b i false false e f h = absurd (never-got h)
-
-pub marks : Exact (λ (b : Bool). Unit {0}) mark-text mark
-unfolding mark
-marks = record {
-  complete = λ b t o. mark-complete b t;
-  sound = λ t b i h. mark-sound t b i (starts (mark-text true) t) (starts (mark-text false) t) refl refl h;
-}
 
 -- ---- a record, for any two last lines
 pub never-some : {X : Type 0} {v : X} → _≡_ {A = Option X} none (some v) → ⊥

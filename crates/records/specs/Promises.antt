@@ -5,8 +5,8 @@ use mathlib.Core.Bool.{false}
 use mathlib.Core.List.{List, _++_}
 use lib.IntN.{ℤ}
 use lib.ListN.{length, drop}
-use Rattle.records.specs.declared.JobRead.{JobRead}
 use Rattle.records.specs.declared.AnswerRead.{AnswerRead}
+use Rattle.records.specs.declared.JobRead.{JobRead}
 use Rattle.records.specs.declared.Written.{Written}
 use Rattle.records.specs.Records.{Answer, AnswerHolds, Job, JobHolds, answer-text, job-text}
 

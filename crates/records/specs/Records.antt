@@ -1,11 +1,11 @@
 -- The two records of document 01, by their spelling: the values of each, which values it can hold, and its four lines.
 use Prim.Native.Nat.{ℕ}
-use mathlib.Core.Bool.{Bool, true, false}
+use mathlib.Core.Bool.{Bool}
 use mathlib.Core.List.{List, _++_}
 use lib.IntN.{ℤ}
 use lib.ListN.{length}
 use Rattle.decimal.specs.Spelling.{Small, Word, decimal, signed}
-use Rattle.lines.specs.Lines.{Counted, bytes, list-line, number-line}
+use Rattle.lines.specs.Lines.{Counted, bytes, head-text, list-line, mark-text}
 
 -- ---- the values. The degree is none of its own: it "must equal the count of coefficients"
 pub record Job : Type 0 where
@@ -36,15 +36,6 @@ pub record AnswerHolds (a : Answer) : Type 0 where
   pub coeffs : Counted Word 1024 (a .coeffs)
 
 -- ---- the lines
--- the first two of either record
-unfoldable pub head-text : ℕ → ℕ → List ℕ
-head-text modulus degree = number-line (bytes "modulus=") modulus ++ number-line (bytes "degree=") degree
-
--- `simple=` (yes or no)
-unfoldable pub mark-text : Bool → List ℕ
-mark-text true = bytes "simple=yes\n"
-mark-text false = bytes "simple=no\n"
-
 -- "A job has four lines"
 unfoldable pub job-text : Job → List ℕ
 job-text j =

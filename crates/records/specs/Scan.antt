@@ -1,7 +1,7 @@
 -- What reading a whole text finds: the two lines of the head, two lines more, nothing behind them, and the degree equal to the count.
 use Prim.Native.Nat.{ℕ}
 use mathlib.Core.Path.{_≡_}
-use mathlib.Core.Bool.{Bool, true, false, cond}
+use mathlib.Core.Bool.{Bool, cond}
 use mathlib.Core.Option.{Option, some, none}
 use mathlib.Core.List.{List}
 use lib.Dec.{eqb}
@@ -9,25 +9,13 @@ use lib.IntN.{ℤ}
 use lib.ListN.{length, take}
 use Rattle.decimal.specs.Scan.{Got, bad, got, number, read-list, signed-number}
 use Rattle.lines.specs.Lines.{bytes}
-use Rattle.lines.specs.Scan.{both, keyed, one-line, starts}
+use Rattle.lines.specs.Scan.{both, head, keyed, mark}
 use Rattle.records.specs.declared.AnswerRead.{AnswerRead}
-use Rattle.records.specs.declared.Head.{Head}
 use Rattle.records.specs.declared.JobRead.{JobRead}
-use Rattle.records.specs.declared.Mark.{Mark}
-use Rattle.records.specs.Records.{Answer, Job, answer, job, mark-text}
+use Rattle.records.specs.Records.{Answer, Job, answer, job}
 use Rattle.records.specs.Promises.{answer-read, job-read, no-answer, no-job}
-use Rattle.records.specs.declared.Head.the-variants as heads
-use Rattle.records.specs.declared.Mark.the-variants as marks
 
 -- ---- the lines
-unfoldable pub head : List ℕ → Got (ℕ × ℕ)
-head = both (keyed (bytes "modulus=") (one-line number)) (keyed (bytes "degree=") (one-line number))
-
-unfoldable pub mark : List ℕ → Got Bool
-mark t =
-    cond (starts (mark-text true) t) (got true (length (mark-text true)))
-    (cond (starts (mark-text false) t) (got false (length (mark-text false))) bad)
-
 unfoldable pub coeffs-line : ℕ → List ℕ → Got (List ℕ)
 coeffs-line most = keyed (bytes "coeffs=") (read-list number most)
 
@@ -62,14 +50,6 @@ unfoldable pub read-answer : List ℕ → Option Answer
 read-answer = read-record head mark (coeffs-line 1024) answer-count answer-made
 
 -- ---- the code's answers for these
-abbrev pub as-head : Got (ℕ × ℕ) → Head
-as-head (got v i) = heads.Of (v .0) (v .1) (record { at = i })
-as-head bad = heads.None
-
-abbrev pub as-mark : Got Bool → Mark
-as-mark (got b i) = marks.Of b (record { at = i })
-as-mark bad = marks.None
-
 abbrev pub JobParsed : Option Job → JobRead → List ℕ → List ℤ → Type 0
 JobParsed (some j) r cs ws = (r ≡ job-read j) × (take (length (j .coeffs)) cs ≡ j .coeffs) × (take (length (j .weights)) ws ≡ j .weights)
 JobParsed none r cs ws = r ≡ no-job 1

@@ -6,12 +6,13 @@ ghost use mathlib.Core.Logic.{_↔_};
 ghost use Prim.Native.Nat.{_+_, _≤_};
 ghost use lib.ListN.{length, take, drop};
 ghost use Rattle.decimal.specs.Written.{Wrote};
-ghost use Rattle.records.specs.Records.{JobHolds, AnswerHolds, job, answer, head-text, mark-text, job-text, answer-text};
+ghost use Rattle.records.specs.Records.{JobHolds, AnswerHolds, job, answer, job-text, answer-text};
 ghost use Rattle.records.specs.Promises.{ReadsJob, ReadsAnswer, WritesJob, WritesAnswer, no-job, no-answer};
-ghost use Rattle.records.specs.Scan.{head, mark, read-job, read-answer, as-head, as-mark, JobParsed, AnswerParsed};
+ghost use Rattle.records.specs.Scan.{read-job, read-answer, JobParsed, AnswerParsed};
 use decimal::Cursor;
 use decimal::Listed;
-use decimal::Number;
+use lines::Head;
+use lines::Mark;
 
 // What reading a job gives: the number 0 or that of the refusal, the modulus, how many coefficients, how many weights.
 pub struct JobRead {
@@ -33,18 +34,6 @@ pub struct AnswerRead {
 pub struct Written {
     pub code: u32,
     pub len: usize,
-}
-
-// The first two lines: modulus, degree and the place behind them.
-pub enum Head {
-    Of(u32, u32, Cursor),
-    None,
-}
-
-// The line of the mark, and the place behind it.
-pub enum Mark {
-    Of(bool, Cursor),
-    None,
 }
 
 fn refused_job(code: u32) -> JobRead
@@ -92,38 +81,12 @@ fn copy_signeds(src: &[i32], n: usize, dst: &mut [i32])
     }
 }
 
-fn read_head(text: &[u8]) -> Head
-    ensures { λ r. ⌜ r ≡ as-head (head (now (text .entry))) ⌝ }
-{
-    let Number::Value(modulus, c) = lines::read_number_line(text, b"modulus=") else {
-        return Head::None;
-    };
-    let at = c.at;
-    let Number::Value(degree, d) = lines::read_number_line(&text[at..], b"degree=") else {
-        return Head::None;
-    };
-    let next = d.at;
-    Head::Of(modulus, degree, Cursor { at: at + next })
-}
-
-fn read_mark(text: &[u8]) -> Mark
-    ensures { λ r. ⌜ r ≡ as-mark (mark (now (text .entry))) ⌝ }
-{
-    if lines::has_key(text, b"simple=yes\n") {
-        return Mark::Of(true, Cursor { at: 11 });
-    }
-    if lines::has_key(text, b"simple=no\n") {
-        return Mark::Of(false, Cursor { at: 10 });
-    }
-    Mark::None
-}
-
 // The whole text as a job, whose lists go to the fronts of cs and ws; any other text leaves these in any state.
 fn parse_job(text: &[u8], cs: &mut [u32], ws: &mut [i32]) -> JobRead
     requires { ⌜ (length (now cs) ≡ 64) × (length (now ws) ≡ 64) ⌝ }
     ensures { λ r. ⌜ JobParsed (read-job (now (text .entry))) r (now (cs .exit)) (now (ws .exit)) ⌝ }
 {
-    let Head::Of(modulus, degree, c) = read_head(text) else {
+    let Head::Of(modulus, degree, c) = lines::read_head(text) else {
         return refused_job(1);
     };
     let a = c.at;
@@ -176,12 +139,12 @@ fn parse_answer(text: &[u8], cs: &mut [u32]) -> AnswerRead
     requires { ⌜ length (now cs) ≡ 1024 ⌝ }
     ensures { λ r. ⌜ AnswerParsed (read-answer (now (text .entry))) r (now (cs .exit)) ⌝ }
 {
-    let Head::Of(modulus, degree, c) = read_head(text) else {
+    let Head::Of(modulus, degree, c) = lines::read_head(text) else {
         return refused_answer(1);
     };
     let a = c.at;
     let first = &text[a..];
-    let Mark::Of(simple, d) = read_mark(first) else {
+    let Mark::Of(simple, d) = lines::read_mark(first) else {
         return refused_answer(1);
     };
     let b = d.at;
@@ -218,23 +181,6 @@ pub fn read_answer(text: &[u8], coeffs: &mut [u32]) -> AnswerRead
     r
 }
 
-fn head_len(modulus: u32, degree: usize) -> usize
-    requires { ⌜ degree ≤ 1024 ⌝ }
-    ensures { λ r. ⌜ (r ≡ length (head-text modulus degree)) × (r ≤ 4294968340) ⌝ }
-{
-    let a = 8 + (decimal::width(modulus) + 1);
-    a + (7 + (decimal::width(degree as u32) + 1))
-}
-
-// Writes the first two lines at the front of out, which has room for them, and answers the place behind them.
-fn write_head(out: &mut [u8], modulus: u32, degree: usize) -> usize
-    requires { ⌜ (degree ≤ 1024) × (0 + length (head-text modulus degree) ≤ length (now out)) ⌝ }
-    ensures { λ r. ⌜ Wrote (head-text modulus degree) (now (out .entry)) 0 (now (out .exit)) r ⌝ }
-{
-    let at = lines::write_number_line(out, 0, b"modulus=", modulus);
-    lines::write_number_line(out, at, b"degree=", degree as u32)
-}
-
 // Whether a job can hold the values.
 fn job_holds(modulus: u32, coeffs: &[u32], weights: &[i32]) -> bool
     ensures { λ r. ⌜ (r ≡ true) ↔ JobHolds (job modulus (now (coeffs .entry)) (now (weights .entry))) ⌝ }
@@ -260,7 +206,7 @@ fn job_len(modulus: u32, coeffs: &[u32], weights: &[i32]) -> usize
     requires { ⌜ JobHolds (job modulus (now coeffs) (now weights)) ⌝ }
     ensures { λ r. ⌜ r ≡ length (job-text (job modulus (now (coeffs .entry)) (now (weights .entry)))) ⌝ }
 {
-    let a = head_len(modulus, coeffs.len()) + (7 + decimal::numbers_width(coeffs));
+    let a = lines::head_len(modulus, coeffs.len()) + (7 + decimal::numbers_width(coeffs));
     a + (8 + decimal::signeds_width(weights))
 }
 
@@ -269,7 +215,7 @@ fn put_job(out: &mut [u8], modulus: u32, coeffs: &[u32], weights: &[i32]) -> usi
     requires { ⌜ JobHolds (job modulus (now coeffs) (now weights)) × (0 + length (job-text (job modulus (now coeffs) (now weights))) ≤ length (now out)) ⌝ }
     ensures { λ r. ⌜ Wrote (job-text (job modulus (now (coeffs .entry)) (now (weights .entry)))) (now (out .entry)) 0 (now (out .exit)) r ⌝ }
 {
-    let a = write_head(out, modulus, coeffs.len());
+    let a = lines::write_head(out, modulus, coeffs.len());
     let b = lines::write_numbers_line(out, a, b"coeffs=", coeffs);
     lines::write_signeds_line(out, b, b"weights=", weights)
 }
@@ -289,31 +235,12 @@ pub fn write_job(modulus: u32, coeffs: &[u32], weights: &[i32], out: &mut [u8]) 
     Written { code: 15, len: 0 }
 }
 
-fn mark_len(simple: bool) -> usize
-    ensures { λ r. ⌜ (r ≡ length (mark-text simple)) × (r ≤ 11) ⌝ }
-{
-    if simple {
-        return 11;
-    }
-    10
-}
-
 fn answer_len(modulus: u32, simple: bool, coeffs: &[u32]) -> usize
     requires { ⌜ AnswerHolds (answer modulus simple (now coeffs)) ⌝ }
     ensures { λ r. ⌜ r ≡ length (answer-text (answer modulus simple (now (coeffs .entry)))) ⌝ }
 {
-    let a = head_len(modulus, coeffs.len()) + mark_len(simple);
+    let a = lines::head_len(modulus, coeffs.len()) + lines::mark_len(simple);
     a + (7 + decimal::numbers_width(coeffs))
-}
-
-fn write_mark(out: &mut [u8], at: usize, simple: bool) -> usize
-    requires { ⌜ at + length (mark-text simple) ≤ length (now out) ⌝ }
-    ensures { λ r. ⌜ Wrote (mark-text simple) (now (out .entry)) at (now (out .exit)) r ⌝ }
-{
-    if simple {
-        return lines::write_bytes(out, at, b"simple=yes\n");
-    }
-    lines::write_bytes(out, at, b"simple=no\n")
 }
 
 // Writes the answer at the front of out, which has room for it.
@@ -321,8 +248,8 @@ fn put_answer(out: &mut [u8], modulus: u32, simple: bool, coeffs: &[u32]) -> usi
     requires { ⌜ AnswerHolds (answer modulus simple (now coeffs)) × (0 + length (answer-text (answer modulus simple (now coeffs))) ≤ length (now out)) ⌝ }
     ensures { λ r. ⌜ Wrote (answer-text (answer modulus simple (now (coeffs .entry)))) (now (out .entry)) 0 (now (out .exit)) r ⌝ }
 {
-    let a = write_head(out, modulus, coeffs.len());
-    let b = write_mark(out, a, simple);
+    let a = lines::write_head(out, modulus, coeffs.len());
+    let b = lines::write_mark(out, a, simple);
     lines::write_numbers_line(out, b, b"coeffs=", coeffs)
 }
 

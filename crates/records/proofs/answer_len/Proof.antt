@@ -6,8 +6,8 @@ use Rattle.records.proofs.answer_len.Tie as tie
 use Rattle.records.proofs.answer_len.Reads as reads
 use Rattle.records.proofs.answer_len.Lts as lts
 use Rattle.decimal.proofs.numbers_width.Reads as numbers-width-reads
-use Rattle.records.proofs.head_len.Reads as head-len-reads
-use Rattle.records.proofs.mark_len.Reads as mark-len-reads
+use Rattle.lines.proofs.head_len.Reads as head-len-reads
+use Rattle.lines.proofs.mark_len.Reads as mark-len-reads
 
 -- src/lib.rt:313:13
 head-len-requires : tie.Need-head-len-requires

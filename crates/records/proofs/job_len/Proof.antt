@@ -7,7 +7,7 @@ use Rattle.records.proofs.job_len.Reads as reads
 use Rattle.records.proofs.job_len.Lts as lts
 use Rattle.decimal.proofs.numbers_width.Reads as numbers-width-reads
 use Rattle.decimal.proofs.signeds_width.Reads as signeds-width-reads
-use Rattle.records.proofs.head_len.Reads as head-len-reads
+use Rattle.lines.proofs.head_len.Reads as head-len-reads
 
 -- src/lib.rt:261:13
 head-len-requires : tie.Need-head-len-requires

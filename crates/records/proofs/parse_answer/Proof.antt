@@ -4,11 +4,12 @@ use lib.ListN.{length, take}
 use borrow.Author.Needs.{needs}
 use Rattle.decimal.specs.Scan.{Filled, got, value}
 use Rattle.lines.specs.Lines.{bytes}
-use Rattle.lines.specs.Laws.{within}
+use Rattle.lines.specs.Scan.{head, mark}
+use Rattle.lines.specs.Laws.{heads, marks, within}
 use Rattle.lines.proofs.Steps.{filled-bad, filled-count, filled-got}
-use Rattle.records.specs.Scan.{answer-count, answer-made, coeffs-line, head, mark}
-use Rattle.records.specs.Laws.{coeffs-lines, heads, marks}
-use Rattle.records.proofs.Heads.{head-bad, head-got, mark-bad, mark-got}
+use Rattle.lines.proofs.Heads.{head-bad, head-got, mark-bad, mark-got}
+use Rattle.records.specs.Scan.{answer-count, answer-made, coeffs-line}
+use Rattle.records.specs.Laws.{coeffs-lines}
 use Rattle.records.proofs.Parses.{Line, behind}
 use Rattle.records.proofs.Parses as parses
 use Rattle.records.proofs.parse_answer.Statement.{statement}
@@ -16,8 +17,8 @@ use Rattle.records.proofs.parse_answer.Tie as tie
 use Rattle.records.proofs.parse_answer.Reads as reads
 use Rattle.records.proofs.parse_answer.Lts as lts
 use Rattle.lines.proofs.read_numbers_line.Reads as read-numbers-line-reads
-use Rattle.records.proofs.read_head.Reads as read-head-reads
-use Rattle.records.proofs.read_mark.Reads as read-mark-reads
+use Rattle.lines.proofs.read_head.Reads as read-head-reads
+use Rattle.lines.proofs.read_mark.Reads as read-mark-reads
 use Rattle.records.proofs.refused_answer.Reads as refused-answer-reads
 
 started : (c : tie.After-modulus) → head (c .before .before .before .before .before .args .text .now) ≡ got (c .modulus .given .0 .0, c .modulus .given .0 .1 .0) (c .modulus .given .0 .1 .1 .0 .at)

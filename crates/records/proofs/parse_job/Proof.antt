@@ -4,11 +4,12 @@ use lib.ListN.{length, take}
 use borrow.Author.Needs.{needs}
 use Rattle.decimal.specs.Scan.{Filled, got, value}
 use Rattle.lines.specs.Lines.{bytes}
-use Rattle.lines.specs.Laws.{within}
+use Rattle.lines.specs.Scan.{head}
+use Rattle.lines.specs.Laws.{heads, within}
 use Rattle.lines.proofs.Steps.{filled-bad, filled-count, filled-got}
-use Rattle.records.specs.Scan.{coeffs-line, head, job-count, job-made, weights-line}
-use Rattle.records.specs.Laws.{coeffs-lines, heads, weights-lines}
-use Rattle.records.proofs.Heads.{head-bad, head-got}
+use Rattle.lines.proofs.Heads.{head-bad, head-got}
+use Rattle.records.specs.Scan.{coeffs-line, job-count, job-made, weights-line}
+use Rattle.records.specs.Laws.{coeffs-lines, weights-lines}
 use Rattle.records.proofs.Parses.{Line, behind}
 use Rattle.records.proofs.Parses as parses
 use Rattle.records.proofs.parse_job.Statement.{statement}
@@ -17,7 +18,7 @@ use Rattle.records.proofs.parse_job.Reads as reads
 use Rattle.records.proofs.parse_job.Lts as lts
 use Rattle.lines.proofs.read_numbers_line.Reads as read-numbers-line-reads
 use Rattle.lines.proofs.read_signeds_line.Reads as read-signeds-line-reads
-use Rattle.records.proofs.read_head.Reads as read-head-reads
+use Rattle.lines.proofs.read_head.Reads as read-head-reads
 use Rattle.records.proofs.refused_job.Reads as refused-job-reads
 
 started : (c : tie.After-modulus) → head (c .before .before .before .before .before .args .text .now) ≡ got (c .modulus .given .0 .0, c .modulus .given .0 .1 .0) (c .modulus .given .0 .1 .1 .0 .at)

@@ -3,16 +3,16 @@ use lib.ListN.{length}
 use borrow.Author.Needs.{needs}
 use Rattle.decimal.specs.Spelling.{decimal}
 use Rattle.decimal.proofs.Writes.{wrote-then}
-use Rattle.lines.specs.Lines.{bytes, list-line}
-use Rattle.records.specs.Records.{answer-text, head-text, mark-text}
+use Rattle.lines.specs.Lines.{bytes, head-text, list-line, mark-text}
+use Rattle.records.specs.Records.{answer-text}
 use Rattle.records.proofs.Writing as writing
 use Rattle.records.proofs.put_answer.Statement.{statement}
 use Rattle.records.proofs.put_answer.Tie as tie
 use Rattle.records.proofs.put_answer.Reads as reads
 use Rattle.records.proofs.put_answer.Lts as lts
 use Rattle.lines.proofs.write_numbers_line.Reads as write-numbers-line-reads
-use Rattle.records.proofs.write_head.Reads as write-head-reads
-use Rattle.records.proofs.write_mark.Reads as write-mark-reads
+use Rattle.lines.proofs.write_head.Reads as write-head-reads
+use Rattle.lines.proofs.write_mark.Reads as write-mark-reads
 
 -- src/lib.rt:332:9
 write-head-requires : tie.Need-write-head-requires

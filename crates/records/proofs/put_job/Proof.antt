@@ -3,8 +3,8 @@ use lib.ListN.{length}
 use borrow.Author.Needs.{needs}
 use Rattle.decimal.specs.Spelling.{decimal, signed}
 use Rattle.decimal.proofs.Writes.{wrote-then}
-use Rattle.lines.specs.Lines.{bytes, list-line}
-use Rattle.records.specs.Records.{head-text, job-text}
+use Rattle.lines.specs.Lines.{bytes, head-text, list-line}
+use Rattle.records.specs.Records.{job-text}
 use Rattle.records.proofs.Writing as writing
 use Rattle.records.proofs.put_job.Statement.{statement}
 use Rattle.records.proofs.put_job.Tie as tie
@@ -12,7 +12,7 @@ use Rattle.records.proofs.put_job.Reads as reads
 use Rattle.records.proofs.put_job.Lts as lts
 use Rattle.lines.proofs.write_numbers_line.Reads as write-numbers-line-reads
 use Rattle.lines.proofs.write_signeds_line.Reads as write-signeds-line-reads
-use Rattle.records.proofs.write_head.Reads as write-head-reads
+use Rattle.lines.proofs.write_head.Reads as write-head-reads
 
 -- src/lib.rt:270:9
 write-head-requires : tie.Need-write-head-requires

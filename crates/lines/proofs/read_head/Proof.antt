@@ -7,17 +7,16 @@ use borrow.Author.Needs.{needs}
 use Rattle.decimal.specs.Scan.{Got, got, number}
 use Rattle.decimal.specs.ListLaws.{numbers}
 use Rattle.decimal.proofs.ListSteps.{rest, rest-is}
 use Rattle.lines.specs.Lines.{bytes}
-use Rattle.lines.specs.Scan.{keyed, one-line}
+use Rattle.lines.specs.Scan.{head, keyed, one-line}
 use Rattle.lines.specs.Laws.{keyeds, one-lines, within}
 use Rattle.lines.proofs.Steps.{number-bad, number-got}
-use Rattle.records.specs.Scan.{head}
-use Rattle.records.proofs.Heads as heads
-use Rattle.records.proofs.read_head.Statement.{statement}
-use Rattle.records.proofs.read_head.Tie as tie
-use Rattle.records.proofs.read_head.Reads as reads
-use Rattle.records.proofs.read_head.Lts as lts
+use Rattle.lines.proofs.Heads as heads
+use Rattle.lines.proofs.read_head.Statement.{statement}
+use Rattle.lines.proofs.read_head.Tie as tie
+use Rattle.lines.proofs.read_head.Reads as reads
+use Rattle.lines.proofs.read_head.Lts as lts
 use Rattle.lines.proofs.read_number_line.Reads as read-number-line-reads
 
 -- the scanners of the two lines
 abbrev f : List ℕ → Got ℕ

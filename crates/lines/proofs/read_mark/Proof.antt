@@ -1,12 +1,11 @@
 use borrow.Author.Needs.{needs}
-use Rattle.lines.specs.Lines.{bytes}
-use Rattle.records.specs.Records.{mark-text}
-use Rattle.records.proofs.Heads as heads
-use Rattle.records.proofs.read_mark.Statement.{statement}
-use Rattle.records.proofs.read_mark.Tie as tie
-use Rattle.records.proofs.read_mark.Reads as reads
-use Rattle.records.proofs.read_mark.Lts as lts
+use Rattle.lines.specs.Lines.{bytes, mark-text}
+use Rattle.lines.proofs.Heads as heads
+use Rattle.lines.proofs.read_mark.Statement.{statement}
+use Rattle.lines.proofs.read_mark.Tie as tie
+use Rattle.lines.proofs.read_mark.Reads as reads
+use Rattle.lines.proofs.read_mark.Lts as lts
 use Rattle.lines.proofs.has_key.Reads as has-key-reads
 
 -- src/lib.rt:111:29
 slice-aggregate-has-key : tie.Need-slice-aggregate-has-key

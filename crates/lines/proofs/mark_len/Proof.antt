@@ -1,10 +1,9 @@
 use native.Mathlib.Omega.{arith}
-use Rattle.lines.specs.Lines.{bytes}
-use Rattle.records.specs.Records.{mark-text}
-use Rattle.records.proofs.mark_len.Statement.{statement}
-use Rattle.records.proofs.mark_len.Tie as tie
-use Rattle.records.proofs.mark_len.Reads as reads
-use Rattle.records.proofs.mark_len.Lts as lts
+use Rattle.lines.specs.Lines.{bytes, mark-text}
+use Rattle.lines.proofs.mark_len.Statement.{statement}
+use Rattle.lines.proofs.mark_len.Tie as tie
+use Rattle.lines.proofs.mark_len.Reads as reads
+use Rattle.lines.proofs.mark_len.Lts as lts
 
 -- src/lib.rt:303:9
 returns : tie.Need-returns

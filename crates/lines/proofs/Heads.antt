@@ -8,13 +8,12 @@ use lib.ListN.{length}
 use Rattle.decimal.specs.declared.Cursor.{Cursor}
 use Rattle.decimal.specs.Scan.{Got, bad, got}
 use Rattle.decimal.proofs.ListSteps.{rest, rest-is}
-use Rattle.lines.specs.Scan.{both, starts}
-use Rattle.records.specs.declared.Head.{Head}
-use Rattle.records.specs.declared.Mark.{Mark}
-use Rattle.records.specs.Records.{mark-text}
-use Rattle.records.specs.Scan.{as-head, as-mark, mark}
-use Rattle.records.specs.declared.Head.the-variants as heads
-use Rattle.records.specs.declared.Mark.the-variants as marks
+use Rattle.lines.specs.declared.Head.{Head}
+use Rattle.lines.specs.declared.Mark.{Mark}
+use Rattle.lines.specs.Lines.{mark-text}
+use Rattle.lines.specs.Scan.{as-head, as-mark, both, mark, starts}
+use Rattle.lines.specs.declared.Head.the-variants as heads
+use Rattle.lines.specs.declared.Mark.the-variants as marks
 
 module _ (f g : List ℕ → Got ℕ) (t : List ℕ) where
   pub no-first : f t ≡ bad → heads.None ≡ as-head (both f g t)

@@ -1,13 +1,12 @@
 use native.Mathlib.Omega.{arith}
 use lib.ListN.{length-append}
 use borrow.Author.Needs.{needs}
-use Rattle.lines.specs.Lines.{bytes, number-line}
+use Rattle.lines.specs.Lines.{bytes, head-text, number-line}
 use Rattle.lines.proofs.Writes.{number-line-length}
-use Rattle.records.specs.Records.{head-text}
-use Rattle.records.proofs.head_len.Statement.{statement}
-use Rattle.records.proofs.head_len.Tie as tie
-use Rattle.records.proofs.head_len.Reads as reads
-use Rattle.records.proofs.head_len.Lts as lts
+use Rattle.lines.proofs.head_len.Statement.{statement}
+use Rattle.lines.proofs.head_len.Tie as tie
+use Rattle.lines.proofs.head_len.Reads as reads
+use Rattle.lines.proofs.head_len.Lts as lts
 use Rattle.decimal.proofs.width.Reads as width-reads
 
 -- src/lib.rt:224:18

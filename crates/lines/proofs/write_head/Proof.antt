@@ -1,12 +1,11 @@
 use borrow.Author.Needs.{needs}
 use Rattle.decimal.proofs.Writes.{room-first, room-then, wrote-then}
-use Rattle.lines.specs.Lines.{bytes, number-line}
-use Rattle.records.specs.Records.{head-text}
-use Rattle.records.proofs.write_head.Statement.{statement}
-use Rattle.records.proofs.write_head.Tie as tie
-use Rattle.records.proofs.write_head.Reads as reads
-use Rattle.records.proofs.write_head.Lts as lts
+use Rattle.lines.specs.Lines.{bytes, head-text, number-line}
+use Rattle.lines.proofs.write_head.Statement.{statement}
+use Rattle.lines.proofs.write_head.Tie as tie
+use Rattle.lines.proofs.write_head.Reads as reads
+use Rattle.lines.proofs.write_head.Lts as lts
 use Rattle.lines.proofs.write_number_line.Reads as write-number-line-reads
 
 -- src/lib.rt:234:47
 slice-aggregate-write-number-line : tie.Need-slice-aggregate-write-number-line

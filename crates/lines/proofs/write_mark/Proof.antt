@@ -1,11 +1,10 @@
 use borrow.Author.Needs.{needs}
-use Rattle.lines.specs.Lines.{bytes}
-use Rattle.records.specs.Records.{mark-text}
-use Rattle.records.proofs.write_mark.Statement.{statement}
-use Rattle.records.proofs.write_mark.Tie as tie
-use Rattle.records.proofs.write_mark.Reads as reads
-use Rattle.records.proofs.write_mark.Lts as lts
+use Rattle.lines.specs.Lines.{bytes, mark-text}
+use Rattle.lines.proofs.write_mark.Statement.{statement}
+use Rattle.lines.proofs.write_mark.Tie as tie
+use Rattle.lines.proofs.write_mark.Reads as reads
+use Rattle.lines.proofs.write_mark.Lts as lts
 use Rattle.lines.proofs.write_bytes.Reads as write-bytes-reads
 
 -- src/lib.rt:322:44
 slice-aggregate-write-bytes : tie.Need-slice-aggregate-write-bytes
