@@ -1,0 +1,7 @@
+pub mod Steps
+pub mod Writes
+pub mod ListSteps
+pub mod ListWrites
+pub mod Signs
+pub mod SignedSteps
+pub mod SignedWrites

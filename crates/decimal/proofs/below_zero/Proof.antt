@@ -1,0 +1,11 @@
+use Rattle.decimal.proofs.Signs as signs
+use Rattle.decimal.proofs.below_zero.Statement.{statement}
+use Rattle.decimal.proofs.below_zero.Tie as tie
+use Rattle.decimal.proofs.below_zero.Reads as reads
+use Rattle.decimal.proofs.below_zero.Lts as lts
+
+returns : tie.Need-returns
+returns c = search signs.below-is
+
+pub below-zero-spec : {M : Type 1} → statement M
+below-zero-spec = tie.close (tie.spec returns)

@@ -1,0 +1,6 @@
+pub mod Spelling
+pub mod Scan
+pub mod Written
+pub mod NumberLaws
+pub mod ListLaws
+pub mod SignedLaws

@@ -1,0 +1,331 @@
+// Reads and writes records at their edges, and prints what came out: the numbers of each answer, what is left of the slices, and the texts.
+use records::Written;
+ghost use Prim.Native.Nat.{_≤_};
+
+fn say(text: &[u8]) {
+    io::write_all(1, text);
+}
+
+fn number(n: usize) {
+    say(b" ");
+    io::print_decimal(1, n as u64);
+}
+
+fn one_if(b: bool) -> usize
+    ensures { λ r. ⌜ r ≤ 1 ⌝ }
+{
+    if b {
+        return 1;
+    }
+    0
+}
+
+// How many words from the place on are still 7, as they were lent.
+fn kept(xs: &[u32], from: usize) -> usize {
+    let mut n: usize = 0;
+    let mut i = from;
+    while i < xs.len() {
+        n += one_if(xs[i] == 7);
+        i += 1;
+    }
+    n
+}
+
+fn kept_signed(zs: &[i32], from: usize) -> usize {
+    let mut n: usize = 0;
+    let mut i = from;
+    while i < zs.len() {
+        n += one_if(zs[i] == 7);
+        i += 1;
+    }
+    n
+}
+
+// How many bytes from the place on are still 35, as they were lent.
+fn kept_bytes(bytes: &[u8], from: usize) -> usize {
+    let mut n: usize = 0;
+    let mut i = from;
+    while i < bytes.len() {
+        n += one_if(bytes[i] == 35);
+        i += 1;
+    }
+    n
+}
+
+// Says whether the first n bytes of out are the text.
+fn compare(out: &[u8], n: usize, text: &[u8]) {
+    if n <= out.len() {
+        if check::same(&out[0..n], text) {
+            say(b" same");
+        }
+    }
+}
+
+// Writes what was read, and says whether it is the text.
+fn job_back(text: &[u8], modulus: u32, cs: &[u32], n: usize, ws: &[i32], m: usize) {
+    if n <= cs.len() {
+        if m <= ws.len() {
+            let mut out = [35u8; 1100];
+            let w = records::write_job(modulus, &cs[0..n], &ws[0..m], &mut out);
+            compare(&out, w.len, text);
+        }
+    }
+}
+
+fn answer_back(text: &[u8], modulus: u32, simple: bool, cs: &[u32], n: usize) {
+    if n <= cs.len() {
+        let mut out = [35u8; 11400];
+        let w = records::write_answer(modulus, simple, &cs[0..n], &mut out);
+        compare(&out, w.len, text);
+    }
+}
+
+// Reads a job: the text's length, code, modulus, the two counts, the words kept, and whether it is written back as it was.
+fn job_in(name: &[u8], text: &[u8], cs: &mut [u32], ws: &mut [i32]) {
+    say(name);
+    let r = records::read_job(text, cs, ws);
+    let n = r.degree;
+    let m = r.weights;
+    number(text.len());
+    number(r.code as usize);
+    number(r.modulus as usize);
+    number(n);
+    number(m);
+    say(b" kept");
+    number(kept(cs, n));
+    number(kept_signed(ws, m));
+    if r.code == 0 {
+        job_back(text, r.modulus, cs, n, ws, m);
+    }
+    say(b"\n");
+}
+
+fn job(name: &[u8], text: &[u8]) {
+    let mut cs = [7u32; 65];
+    let mut ws = [7i32; 65];
+    job_in(name, text, &mut cs, &mut ws);
+}
+
+// The same for an answer, with its mark as 1 or 0.
+fn answer_in(name: &[u8], text: &[u8], cs: &mut [u32]) {
+    say(name);
+    let r = records::read_answer(text, cs);
+    let n = r.degree;
+    number(text.len());
+    number(r.code as usize);
+    number(r.modulus as usize);
+    number(n);
+    if r.simple {
+        say(b" yes");
+    } else {
+        say(b" no");
+    }
+    say(b" kept");
+    number(kept(cs, n));
+    if r.code == 0 {
+        answer_back(text, r.modulus, r.simple, cs, n);
+    }
+    say(b"\n");
+}
+
+fn answer(name: &[u8], text: &[u8]) {
+    let mut cs = [7u32; 1025];
+    answer_in(name, text, &mut cs);
+}
+
+// Copies the bytes to the place, as far as there is room, and answers the place behind them.
+fn append(out: &mut [u8], at: usize, bytes: &[u8]) -> usize {
+    let mut p = at;
+    let mut i: usize = 0;
+    while i < bytes.len() {
+        if out.len() <= p {
+            return p;
+        }
+        out[p] = bytes[i];
+        p += 1;
+        i += 1;
+    }
+    p
+}
+
+// The same for n copies, with a line feed in place of the last byte.
+fn repeat(out: &mut [u8], at: usize, item: &[u8], n: usize) -> usize {
+    let mut p = at;
+    let mut i: usize = 0;
+    while i < n {
+        p = append(out, p, item);
+        i += 1;
+    }
+    if 0 < p {
+        if p <= out.len() {
+            out[p - 1] = 10;
+        }
+    }
+    p
+}
+
+// Reads a job of n coefficients and m weights, which are given with a comma behind each.
+fn long_job(name: &[u8], head: &[u8], coeff: &[u8], n: usize, weight: &[u8], m: usize) {
+    let mut text = [0u8; 1200];
+    let a = append(&mut text, 0, head);
+    let b = repeat(&mut text, a, coeff, n);
+    let c = append(&mut text, b, b"weights=");
+    let d = repeat(&mut text, c, weight, m);
+    if d <= 1200 {
+        job(name, &text[0..d]);
+    }
+}
+
+fn long_answer(name: &[u8], head: &[u8], coeff: &[u8], n: usize) {
+    let mut text = [0u8; 11400];
+    let a = append(&mut text, 0, head);
+    let b = repeat(&mut text, a, coeff, n);
+    if b <= 11400 {
+        answer(name, &text[0..b]);
+    }
+}
+
+// What a writer did: code, length, the bytes kept, and the text.
+fn show(w: Written, out: &[u8]) {
+    let n = w.len;
+    number(w.code as usize);
+    number(n);
+    say(b" kept");
+    number(kept_bytes(out, n));
+    say(b"\n");
+    if n <= out.len() {
+        say(&out[0..n]);
+    }
+}
+
+fn put_job(name: &[u8], modulus: u32, coeffs: &[u32], weights: &[i32], out: &mut [u8]) {
+    say(name);
+    let w = records::write_job(modulus, coeffs, weights, out);
+    show(w, out);
+}
+
+fn put_answer(name: &[u8], modulus: u32, simple: bool, coeffs: &[u32], out: &mut [u8]) {
+    say(name);
+    let w = records::write_answer(modulus, simple, coeffs, out);
+    show(w, out);
+}
+
+fn jobs() {
+    job(b"example", b"modulus=257\ndegree=4\ncoeffs=0,0,0,256\nweights=1,1\n");
+    job(b"edges", b"modulus=4294967295\ndegree=2\ncoeffs=4294967295,0\nweights=-999,999,0\n");
+    job(b"zeros", b"modulus=0\ndegree=1\ncoeffs=0\nweights=0\n");
+    job(b"empty", b"");
+    job(b"NUL", b"modulus=257\ndegree=1\ncoeffs=0\nweights=1\n\x00");
+    job(b"above 127", b"modulus=257\ndegree=1\ncoeffs=\xb2\nweights=1\n");
+    job(b"CR LF", b"modulus=257\r\ndegree=1\r\ncoeffs=0\r\nweights=1\r\n");
+    job(b"no last LF", b"modulus=257\ndegree=1\ncoeffs=0\nweights=1");
+    job(b"two LF", b"modulus=257\ndegree=1\ncoeffs=0\nweights=1\n\n");
+    job(b"an answer", b"modulus=257\ndegree=1\nsimple=yes\ncoeffs=0\n");
+}
+
+fn numbers() {
+    job(b"leading zero", b"modulus=0257\ndegree=1\ncoeffs=0\nweights=1\n");
+    job(b"plus sign", b"modulus=257\ndegree=1\ncoeffs=0\nweights=+1\n");
+    job(b"minus zero", b"modulus=257\ndegree=1\ncoeffs=0\nweights=-0\n");
+    job(b"minus alone", b"modulus=257\ndegree=1\ncoeffs=0\nweights=-\n");
+    job(b"minus coefficient", b"modulus=257\ndegree=1\ncoeffs=-1\nweights=1\n");
+    job(b"4294967296", b"modulus=4294967296\ndegree=1\ncoeffs=0\nweights=1\n");
+    job(b"18446744073709551873", b"modulus=18446744073709551873\ndegree=1\ncoeffs=0\nweights=1\n");
+    job(b"weight 1000", b"modulus=257\ndegree=1\ncoeffs=0\nweights=1000\n");
+    job(b"weight -1000", b"modulus=257\ndegree=1\ncoeffs=0\nweights=-1000\n");
+    job(b"blank", b"modulus=257\ndegree=2\ncoeffs=0, 1\nweights=1\n");
+}
+
+fn counts() {
+    job(b"no weights", b"modulus=257\ndegree=1\ncoeffs=0\nweights=\n");
+    job(b"comma at the end", b"modulus=257\ndegree=1\ncoeffs=0,\nweights=1\n");
+    job(b"degree too small", b"modulus=257\ndegree=1\ncoeffs=0,1\nweights=1\n");
+    job(b"degree 260", b"modulus=257\ndegree=260\ncoeffs=0,1,2,3\nweights=1\n");
+    long_job(b"64 and 64", b"modulus=257\ndegree=64\ncoeffs=", b"1,", 64, b"2,", 64);
+    long_job(b"65 coefficients", b"modulus=257\ndegree=65\ncoeffs=", b"1,", 65, b"2,", 64);
+    long_job(b"65 weights", b"modulus=257\ndegree=64\ncoeffs=", b"1,", 64, b"2,", 65);
+    long_job(b"longest job", b"modulus=4294967295\ndegree=64\ncoeffs=", b"4294967295,", 64, b"-999,", 64);
+}
+
+fn lent() {
+    let mut few = [7u32; 63];
+    let mut enough = [7u32; 64];
+    let mut few_signed = [7i32; 63];
+    let mut enough_signed = [7i32; 64];
+    let text = b"modulus=257\ndegree=1\ncoeffs=0\nweights=1\n";
+    job_in(b"63 words", text, &mut few, &mut enough_signed);
+    job_in(b"63 weights", text, &mut enough, &mut few_signed);
+    job_in(b"63 words, no job", b"job", &mut few, &mut enough_signed);
+    job_in(b"64 and 64 lent", text, &mut enough, &mut enough_signed);
+}
+
+fn answers() {
+    answer(b"example", b"modulus=257\ndegree=6\nsimple=yes\ncoeffs=0,0,0,4,0,0\n");
+    answer(b"no", b"modulus=257\ndegree=1\nsimple=no\ncoeffs=256\n");
+    answer(b"maybe", b"modulus=257\ndegree=1\nsimple=maybe\ncoeffs=256\n");
+    answer(b"Yes", b"modulus=257\ndegree=1\nsimple=Yes\ncoeffs=256\n");
+    answer(b"other order", b"modulus=257\ndegree=1\ncoeffs=256\nsimple=yes\n");
+    answer(b"no last LF", b"modulus=257\ndegree=1\nsimple=yes\ncoeffs=256");
+    answer(b"degree too large", b"modulus=257\ndegree=2\nsimple=yes\ncoeffs=256\n");
+    long_answer(b"1024", b"modulus=257\ndegree=1024\nsimple=no\ncoeffs=", b"1,", 1024);
+    long_answer(b"1025", b"modulus=257\ndegree=1025\nsimple=no\ncoeffs=", b"1,", 1025);
+    long_answer(b"longest answer", b"modulus=4294967295\ndegree=1024\nsimple=yes\ncoeffs=", b"4294967295,", 1024);
+}
+
+fn lent_answers() {
+    let mut few = [7u32; 1023];
+    let mut enough = [7u32; 1024];
+    let text = b"modulus=257\ndegree=1\nsimple=yes\ncoeffs=0\n";
+    answer_in(b"1023 words", text, &mut few);
+    answer_in(b"1023 words, no answer", b"answer", &mut few);
+    answer_in(b"1024 words", text, &mut enough);
+}
+
+fn written_jobs() {
+    let coeffs = [0u32, 0, 0, 256];
+    let weights = [1i32, -1];
+    let none = [0u32; 0];
+    let many = [0u32; 65];
+    let large = [1000i32];
+    let mut longer = [35u8; 54];
+    let mut exact = [35u8; 51];
+    let mut shorter = [35u8; 50];
+    let mut nothing = [35u8; 0];
+    put_job(b"three bytes more", 257, &coeffs, &weights, &mut longer);
+    put_job(b"exactly long enough", 257, &coeffs, &weights, &mut exact);
+    put_job(b"one byte shorter", 257, &coeffs, &weights, &mut shorter);
+    put_job(b"no coefficients", 257, &none, &weights, &mut shorter);
+    put_job(b"65 coefficients, no room", 257, &many, &weights, &mut nothing);
+    put_job(b"weight 1000", 257, &coeffs, &large, &mut shorter);
+}
+
+fn written_answers() {
+    let coeffs = [0u32, 0, 0, 4, 0, 0];
+    let none = [0u32; 0];
+    let many = [0u32; 1025];
+    let mut longer = [35u8; 54];
+    let mut exact = [35u8; 51];
+    let mut shorter = [35u8; 50];
+    let mut nothing = [35u8; 0];
+    put_answer(b"three bytes more", 257, true, &coeffs, &mut longer);
+    put_answer(b"exactly long enough", 257, true, &coeffs, &mut exact);
+    put_answer(b"one byte shorter", 257, true, &coeffs, &mut shorter);
+    put_answer(b"no: one byte less to write", 257, false, &coeffs, &mut shorter);
+    put_answer(b"no coefficients, no room", 257, true, &none, &mut nothing);
+    put_answer(b"1025 coefficients, no room", 257, true, &many, &mut nothing);
+}
+
+fn main() {
+    say(b"-- jobs\n");
+    jobs();
+    numbers();
+    counts();
+    lent();
+    say(b"-- answers\n");
+    answers();
+    lent_answers();
+    say(b"-- jobs written\n");
+    written_jobs();
+    say(b"-- answers written\n");
+    written_answers();
+}

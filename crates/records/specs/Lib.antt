@@ -1,0 +1,5 @@
+pub mod Records
+pub mod Promises
+pub mod Scan
+pub mod Laws
+pub mod Theorems
