@@ -9,3 +9,4 @@ pub mod Answer
 pub mod Turns
 pub mod Refusals
 pub mod Table
+pub mod Accepted
