@@ -10,3 +10,5 @@ pub mod Turns
 pub mod Refusals
 pub mod Table
 pub mod Accepted
+pub mod Edges
+pub mod Cases

@@ -1,5 +1,7 @@
--- Wrong turns that look right (document 01). A sum d + e = 0 is a weight like any other: it neither ends a list nor may be left
--- out. With n roots, T of 0 ∷ M is n - length M times T of M: the first sum of rule 2 is n T(M), and each place gives M back.
+-- Document 01, "Wrong turns that look right", each ruled out by a theorem.
+-- Two are about numbers that rule 2 gives, and both come of its first sum being n T(M) and of a collision for each position:
+-- T_0 of r weights is n (n - 1) .. (n - r + 1), and T of 0 ∷ M is n - length M times T of M. The other two are about N.
+-- The fifth, taking a k-th root through the derivative, has no place here: rule 3 divides power sums, and no root is taken.
 use mathlib.Core.Path.{_≡_, sym, ap, ap₂, _∙_}
 use mathlib.Core.List.{List, [], _∷_}
 use Prim.Native.Nat.{ℕ, zero, suc, _+_, _-_, _≤_}
