@@ -41,15 +41,15 @@ moduli = refl
 
 -- N = 924: 10 at 257, taken at 1,009. 990: taken at 1,009. 1,320: 9. 252: taken at 257. 336: 10 at 257
 pub numbers : map number (
-  power 257 12 (ones 6)
-  ∷ power 1009 12 (ones 6)
-  ∷ power 1009 11 one-two-three
-  ∷ power 1009 12 one-two-three
-  ∷ power 257 12 one-two-three
-  ∷ power 257 10 (ones 5)
-  ∷ power 257 8 one-two-three
-  ∷ []
-) ≡ 10 ∷ 0 ∷ 0 ∷ 9 ∷ 9 ∷ 0 ∷ 10 ∷ []
+    power 257 12 (ones 6)
+    ∷ power 1009 12 (ones 6)
+    ∷ power 1009 11 one-two-three
+    ∷ power 1009 12 one-two-three
+    ∷ power 257 12 one-two-three
+    ∷ power 257 10 (ones 5)
+    ∷ power 257 8 one-two-three
+    ∷ []
+    ) ≡ 10 ∷ 0 ∷ 0 ∷ 9 ∷ 9 ∷ 0 ∷ 10 ∷ []
 unfolding number
 numbers = refl
 
