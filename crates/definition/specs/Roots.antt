@@ -6,7 +6,7 @@ use mathlib.Core.List.{List, [], _∷_, map}
 use Prim.Native.Nat.{ℕ, zero, suc, _+_, _-_, _≤_, _<_}
 use native.Mathlib.Decide.{decLt}
 use native.Mathlib.Omega.{arith}
-use lib.ListN.{length, getD}
+use lib.ListN.{length, length-map, getD}
 use lib.IntN.{ℤ}
 use Rattle.algebra.specs.Ring.{Ops, Laws}
 use Rattle.algebra.specs.Ring as R
@@ -15,6 +15,7 @@ use Rattle.algebra.specs.Sum.{sum, sum-cong, sum-append, sum-zeros}
 use Rattle.algebra.specs.Newton.{coeff, coeff-past, newton-next, power-sum, power-sum-zero}
 use Rattle.algebra.specs.Integer.{ℤ-eq}
 use Rattle.placements.specs.Placements.{placements, value}
+use Rattle.placements.specs.Number.{placed, placed-number}
 use Rattle.definition.specs.Definition.{nth, sum₁, Rule₁}
 use Rattle.definition.specs.Rules.{nth-suc, nth-past, sum₁-is}
 
@@ -39,9 +40,14 @@ module _ {A : Type 0} (o : Ops A) where
   unfoldable pub product : List A → List A
   product rs = listed (length rs) (coeff o rs)
 
-  -- the weighted sums of all different ways to lay the weights L on the listed roots
+  -- the weighted sums of all placements of the weights L on the listed roots
   unfoldable pub values : List A → List ℤ → List A
   values rs L = map (value o (int o) rs) (placements ℤ-eq (length rs) L)
+
+  -- one for each placement, also where some are equal
+  pub length-values : (rs : List A) (L : List ℤ) → length (values rs L) ≡ placed (length rs) L
+  unfolding values
+  length-values rs L = length-map (placements ℤ-eq (length rs) L) _ ∙ placed-number (length rs) L
 
 module _ {A : Type 0} {o : Ops A} (l : Laws o) where
   open Ops o using (zero as 𝟘, one as 𝟙, add as _⊕_, mul as _⊗_, neg as ⊖_)

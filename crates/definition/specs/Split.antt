@@ -5,7 +5,7 @@ use mathlib.Core.Path.{_≡_, sym, ap, ap₂, _∙_, fun-ext}
 use mathlib.Core.List.{List, [], _∷_}
 use Prim.Native.Nat.{ℕ, zero, suc, _-_, _≤_}
 use native.Mathlib.Omega.{arith}
-use lib.ListN.{length, length-map}
+use lib.ListN.{length}
 use lib.IntN.{ℤ, _+ℤ_}
 use Rattle.algebra.specs.Ring.{Ops, Laws}
 use Rattle.algebra.specs.Ring as R
@@ -19,10 +19,10 @@ use Rattle.placements.specs.Multiplicity.{factorials}
 use Rattle.placements.specs.Laying.{layings, layings-empty, collide-powers}
 use Rattle.placements.specs.Places.{with-sum, length-with-sum, collisions-places}
 use Rattle.placements.specs.Placements.{placements, value}
-use Rattle.placements.specs.Number.{factorial, placed, placed-number}
+use Rattle.placements.specs.Number.{factorial, placed}
 use Rattle.definition.specs.Definition.{Resolvent}
 use Rattle.definition.specs.Rules.{T, T-nil, T-cons, T-meets}
-use Rattle.definition.specs.Roots.{product, values, length-product, newton-at, sums-of-roots}
+use Rattle.definition.specs.Roots.{product, values, length-values, length-product, newton-at, sums-of-roots}
 
 module _ {A : Type 0} {o : Ops A} (l : Laws o) where
   open Ops o using (zero as 𝟘, one as 𝟙, add as _⊕_, mul as _⊗_, neg as ⊖_)
@@ -65,7 +65,6 @@ module _ {A : Type 0} {o : Ops A} (l : Laws o) where
 
   -- the resolvent of the product of x - a is the product over the placements
   pub split : (rs : List A) (L : List ℤ) → Resolvent o (product o rs) L (product o (values o rs L))
-  unfolding values
   split rs L = record {
     s = power-sum o rs;
     T = T o (power-sum o rs);
@@ -74,5 +73,5 @@ module _ {A : Type 0} {o : Ops A} (l : Laws o) where
     rule₂ = T-meets o (power-sum o rs);
     rule₃ = λ k h. T-placements rs L k;
     rule₄ = λ k a h. rule-4 _ _ _ _ (newton-at l (values o rs L) k a);
-    size = length-product l (values o rs L) ∙ length-map (placements ℤ-eq (length rs) L) _ ∙ placed-number (length rs) L ∙ ap (λ n. placed n L) (sym (length-product l rs));
+    size = length-product l (values o rs L) ∙ length-values o rs L ∙ ap (λ n. placed n L) (sym (length-product l rs));
   }
