@@ -100,10 +100,19 @@ fn job_in(name: &[u8], text: &[u8], cs: &mut [u32], ws: &mut [i32]) {
     say(b"\n");
 }
 
-fn job(name: &[u8], text: &[u8]) {
+// The same with slices of c and w words lent.
+fn job_lent(name: &[u8], text: &[u8], c: usize, w: usize) {
     let mut cs = [7u32; 65];
     let mut ws = [7i32; 65];
-    job_in(name, text, &mut cs, &mut ws);
+    if c <= 65 {
+        if w <= 65 {
+            job_in(name, text, &mut cs[0..c], &mut ws[0..w]);
+        }
+    }
+}
+
+fn job(name: &[u8], text: &[u8]) {
+    job_lent(name, text, 65, 65);
 }
 
 // The same for an answer, with its mark as 1 or 0.
@@ -128,9 +137,15 @@ fn answer_in(name: &[u8], text: &[u8], cs: &mut [u32]) {
     say(b"\n");
 }
 
-fn answer(name: &[u8], text: &[u8]) {
+fn answer_lent(name: &[u8], text: &[u8], c: usize) {
     let mut cs = [7u32; 1025];
-    answer_in(name, text, &mut cs);
+    if c <= 1025 {
+        answer_in(name, text, &mut cs[0..c]);
+    }
+}
+
+fn answer(name: &[u8], text: &[u8]) {
+    answer_lent(name, text, 1025);
 }
 
 // Copies the bytes to the place, as far as there is room, and answers the place behind them.
@@ -198,87 +213,148 @@ fn show(w: Written, out: &[u8]) {
     }
 }
 
-fn put_job(name: &[u8], modulus: u32, coeffs: &[u32], weights: &[i32], out: &mut [u8]) {
-    say(name);
-    let w = records::write_job(modulus, coeffs, weights, out);
-    show(w, out);
+// Writes a job into `room` bytes.
+fn put_job(name: &[u8], coeffs: &[u32], weights: &[i32], room: usize) {
+    let mut out = [35u8; 60];
+    if room <= 60 {
+        let part = &mut out[0..room];
+        say(name);
+        let w = records::write_job(257, coeffs, weights, part);
+        show(w, part);
+    }
 }
 
-fn put_answer(name: &[u8], modulus: u32, simple: bool, coeffs: &[u32], out: &mut [u8]) {
-    say(name);
-    let w = records::write_answer(modulus, simple, coeffs, out);
-    show(w, out);
+fn put_answer(name: &[u8], simple: bool, coeffs: &[u32], room: usize) {
+    let mut out = [35u8; 60];
+    if room <= 60 {
+        let part = &mut out[0..room];
+        say(name);
+        let w = records::write_answer(257, simple, coeffs, part);
+        show(w, part);
+    }
 }
 
 fn jobs() {
-    job(b"example", b"modulus=257\ndegree=4\ncoeffs=0,0,0,256\nweights=1,1\n");
-    job(b"edges", b"modulus=4294967295\ndegree=2\ncoeffs=4294967295,0\nweights=-999,999,0\n");
-    job(b"zeros", b"modulus=0\ndegree=1\ncoeffs=0\nweights=0\n");
+    job(
+        b"example",
+        b"modulus=257\ndegree=4\ncoeffs=0,0,0,256\nweights=1,1\n",
+    );
+    job(
+        b"edges",
+        b"modulus=4294967295\ndegree=2\ncoeffs=4294967295,0\nweights=-999,999,0\n",
+    );
     job(b"empty", b"");
     job(b"NUL", b"modulus=257\ndegree=1\ncoeffs=0\nweights=1\n\x00");
-    job(b"above 127", b"modulus=257\ndegree=1\ncoeffs=\xb2\nweights=1\n");
-    job(b"CR LF", b"modulus=257\r\ndegree=1\r\ncoeffs=0\r\nweights=1\r\n");
+    job(
+        b"above 127",
+        b"modulus=257\ndegree=1\ncoeffs=\xb2\nweights=1\n",
+    );
+    job(
+        b"CR LF",
+        b"modulus=257\r\ndegree=1\r\ncoeffs=0\r\nweights=1\r\n",
+    );
     job(b"no last LF", b"modulus=257\ndegree=1\ncoeffs=0\nweights=1");
-    job(b"two LF", b"modulus=257\ndegree=1\ncoeffs=0\nweights=1\n\n");
-    job(b"an answer", b"modulus=257\ndegree=1\nsimple=yes\ncoeffs=0\n");
-}
-
-fn numbers() {
-    job(b"leading zero", b"modulus=0257\ndegree=1\ncoeffs=0\nweights=1\n");
-    job(b"plus sign", b"modulus=257\ndegree=1\ncoeffs=0\nweights=+1\n");
-    job(b"minus zero", b"modulus=257\ndegree=1\ncoeffs=0\nweights=-0\n");
-    job(b"minus alone", b"modulus=257\ndegree=1\ncoeffs=0\nweights=-\n");
-    job(b"minus coefficient", b"modulus=257\ndegree=1\ncoeffs=-1\nweights=1\n");
-    job(b"4294967296", b"modulus=4294967296\ndegree=1\ncoeffs=0\nweights=1\n");
-    job(b"18446744073709551873", b"modulus=18446744073709551873\ndegree=1\ncoeffs=0\nweights=1\n");
-    job(b"weight 1000", b"modulus=257\ndegree=1\ncoeffs=0\nweights=1000\n");
-    job(b"weight -1000", b"modulus=257\ndegree=1\ncoeffs=0\nweights=-1000\n");
-    job(b"blank", b"modulus=257\ndegree=2\ncoeffs=0, 1\nweights=1\n");
+    job(
+        b"leading zero",
+        b"modulus=0257\ndegree=1\ncoeffs=0\nweights=1\n",
+    );
+    job(
+        b"minus zero",
+        b"modulus=257\ndegree=1\ncoeffs=0\nweights=-0\n",
+    );
+    job(
+        b"4294967296",
+        b"modulus=4294967296\ndegree=1\ncoeffs=0\nweights=1\n",
+    );
 }
 
 fn counts() {
-    job(b"no weights", b"modulus=257\ndegree=1\ncoeffs=0\nweights=\n");
-    job(b"comma at the end", b"modulus=257\ndegree=1\ncoeffs=0,\nweights=1\n");
-    job(b"degree too small", b"modulus=257\ndegree=1\ncoeffs=0,1\nweights=1\n");
-    job(b"degree 260", b"modulus=257\ndegree=260\ncoeffs=0,1,2,3\nweights=1\n");
-    long_job(b"64 and 64", b"modulus=257\ndegree=64\ncoeffs=", b"1,", 64, b"2,", 64);
-    long_job(b"65 coefficients", b"modulus=257\ndegree=65\ncoeffs=", b"1,", 65, b"2,", 64);
-    long_job(b"65 weights", b"modulus=257\ndegree=64\ncoeffs=", b"1,", 64, b"2,", 65);
-    long_job(b"longest job", b"modulus=4294967295\ndegree=64\ncoeffs=", b"4294967295,", 64, b"-999,", 64);
+    job(
+        b"no weights",
+        b"modulus=257\ndegree=1\ncoeffs=0\nweights=\n",
+    );
+    job(
+        b"other degree",
+        b"modulus=257\ndegree=1\ncoeffs=0,1\nweights=1\n",
+    );
+    long_job(
+        b"64 and 64",
+        b"modulus=257\ndegree=64\ncoeffs=",
+        b"1,",
+        64,
+        b"2,",
+        64,
+    );
+    long_job(
+        b"65 and 64",
+        b"modulus=257\ndegree=65\ncoeffs=",
+        b"1,",
+        65,
+        b"2,",
+        64,
+    );
+    long_job(
+        b"64 and 65",
+        b"modulus=257\ndegree=64\ncoeffs=",
+        b"1,",
+        64,
+        b"2,",
+        65,
+    );
+    long_job(
+        b"longest job",
+        b"modulus=4294967295\ndegree=64\ncoeffs=",
+        b"4294967295,",
+        64,
+        b"-999,",
+        64,
+    );
 }
 
 fn lent() {
-    let mut few = [7u32; 63];
-    let mut enough = [7u32; 64];
-    let mut few_signed = [7i32; 63];
-    let mut enough_signed = [7i32; 64];
     let text = b"modulus=257\ndegree=1\ncoeffs=0\nweights=1\n";
-    job_in(b"63 words", text, &mut few, &mut enough_signed);
-    job_in(b"63 weights", text, &mut enough, &mut few_signed);
-    job_in(b"63 words, no job", b"job", &mut few, &mut enough_signed);
-    job_in(b"64 and 64 lent", text, &mut enough, &mut enough_signed);
+    job_lent(b"63 words lent", text, 63, 64);
+    job_lent(b"63 weights lent", text, 64, 63);
+    job_lent(b"63 words lent, no job", b"job", 63, 64);
+    job_lent(b"64 and 64 lent", text, 64, 64);
+    let reply = b"modulus=257\ndegree=1\nsimple=yes\ncoeffs=0\n";
+    answer_lent(b"1023 words lent", reply, 1023);
+    answer_lent(b"1023 words lent, no answer", b"answer", 1023);
+    answer_lent(b"1024 words lent", reply, 1024);
 }
 
 fn answers() {
-    answer(b"example", b"modulus=257\ndegree=6\nsimple=yes\ncoeffs=0,0,0,4,0,0\n");
+    answer(
+        b"example",
+        b"modulus=257\ndegree=6\nsimple=yes\ncoeffs=0,0,0,4,0,0\n",
+    );
     answer(b"no", b"modulus=257\ndegree=1\nsimple=no\ncoeffs=256\n");
-    answer(b"maybe", b"modulus=257\ndegree=1\nsimple=maybe\ncoeffs=256\n");
-    answer(b"Yes", b"modulus=257\ndegree=1\nsimple=Yes\ncoeffs=256\n");
-    answer(b"other order", b"modulus=257\ndegree=1\ncoeffs=256\nsimple=yes\n");
-    answer(b"no last LF", b"modulus=257\ndegree=1\nsimple=yes\ncoeffs=256");
-    answer(b"degree too large", b"modulus=257\ndegree=2\nsimple=yes\ncoeffs=256\n");
-    long_answer(b"1024", b"modulus=257\ndegree=1024\nsimple=no\ncoeffs=", b"1,", 1024);
-    long_answer(b"1025", b"modulus=257\ndegree=1025\nsimple=no\ncoeffs=", b"1,", 1025);
-    long_answer(b"longest answer", b"modulus=4294967295\ndegree=1024\nsimple=yes\ncoeffs=", b"4294967295,", 1024);
-}
-
-fn lent_answers() {
-    let mut few = [7u32; 1023];
-    let mut enough = [7u32; 1024];
-    let text = b"modulus=257\ndegree=1\nsimple=yes\ncoeffs=0\n";
-    answer_in(b"1023 words", text, &mut few);
-    answer_in(b"1023 words, no answer", b"answer", &mut few);
-    answer_in(b"1024 words", text, &mut enough);
+    answer(
+        b"neither",
+        b"modulus=257\ndegree=1\nsimple=maybe\ncoeffs=256\n",
+    );
+    answer(
+        b"other degree",
+        b"modulus=257\ndegree=2\nsimple=yes\ncoeffs=256\n",
+    );
+    long_answer(
+        b"1024",
+        b"modulus=257\ndegree=1024\nsimple=no\ncoeffs=",
+        b"1,",
+        1024,
+    );
+    long_answer(
+        b"1025",
+        b"modulus=257\ndegree=1025\nsimple=no\ncoeffs=",
+        b"1,",
+        1025,
+    );
+    long_answer(
+        b"longest answer",
+        b"modulus=4294967295\ndegree=1024\nsimple=yes\ncoeffs=",
+        b"4294967295,",
+        1024,
+    );
 }
 
 fn written_jobs() {
@@ -287,43 +363,34 @@ fn written_jobs() {
     let none = [0u32; 0];
     let many = [0u32; 65];
     let large = [1000i32];
-    let mut longer = [35u8; 54];
-    let mut exact = [35u8; 51];
-    let mut shorter = [35u8; 50];
-    let mut nothing = [35u8; 0];
-    put_job(b"three bytes more", 257, &coeffs, &weights, &mut longer);
-    put_job(b"exactly long enough", 257, &coeffs, &weights, &mut exact);
-    put_job(b"one byte shorter", 257, &coeffs, &weights, &mut shorter);
-    put_job(b"no coefficients", 257, &none, &weights, &mut shorter);
-    put_job(b"65 coefficients, no room", 257, &many, &weights, &mut nothing);
-    put_job(b"weight 1000", 257, &coeffs, &large, &mut shorter);
+    put_job(b"three bytes more", &coeffs, &weights, 54);
+    put_job(b"exactly long enough", &coeffs, &weights, 51);
+    put_job(b"one byte shorter", &coeffs, &weights, 50);
+    put_job(b"no coefficients", &none, &weights, 60);
+    put_job(b"65 coefficients, no room", &many, &weights, 0);
+    put_job(b"weight 1000, no room", &coeffs, &large, 0);
 }
 
 fn written_answers() {
     let coeffs = [0u32, 0, 0, 4, 0, 0];
     let none = [0u32; 0];
     let many = [0u32; 1025];
-    let mut longer = [35u8; 54];
-    let mut exact = [35u8; 51];
-    let mut shorter = [35u8; 50];
-    let mut nothing = [35u8; 0];
-    put_answer(b"three bytes more", 257, true, &coeffs, &mut longer);
-    put_answer(b"exactly long enough", 257, true, &coeffs, &mut exact);
-    put_answer(b"one byte shorter", 257, true, &coeffs, &mut shorter);
-    put_answer(b"no: one byte less to write", 257, false, &coeffs, &mut shorter);
-    put_answer(b"no coefficients, no room", 257, true, &none, &mut nothing);
-    put_answer(b"1025 coefficients, no room", 257, true, &many, &mut nothing);
+    put_answer(b"three bytes more", true, &coeffs, 54);
+    put_answer(b"exactly long enough", true, &coeffs, 51);
+    put_answer(b"one byte shorter", true, &coeffs, 50);
+    put_answer(b"not simple", false, &coeffs, 50);
+    put_answer(b"no coefficients, no room", true, &none, 0);
+    put_answer(b"1025 coefficients, no room", true, &many, 0);
 }
 
 fn main() {
     say(b"-- jobs\n");
     jobs();
-    numbers();
     counts();
-    lent();
     say(b"-- answers\n");
     answers();
-    lent_answers();
+    say(b"-- slices too short, and just long enough\n");
+    lent();
     say(b"-- jobs written\n");
     written_jobs();
     say(b"-- answers written\n");

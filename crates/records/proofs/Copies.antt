@@ -27,4 +27,3 @@ module _ {A : Type 0} where
 pub copied-signed : (src dst₀ dst : List ℤ) (i n : ℕ) → SFits w32 (getD src i (pos 0)) → i < n → n ≤ length src → n ≤ length dst₀ → dst ≡ take i src ++ drop i dst₀ →
     set dst i (toZ w32 (ofZ w32 (getD src i (pos 0)))) ≡ take (i + 1) src ++ drop (i + 1) dst₀
 copied-signed src dst₀ dst i n f h k l e = rw (toZ-ofZ w32 _ f) (copied src dst₀ dst i n (pos 0) h k l e)
-

@@ -44,7 +44,7 @@ add-result-3 c = search needs
 -- src/lib.rt:220:1
 returns : tie.Need-returns
 unfolding head-text bytes
-returns c = 
+returns c =
     let m = c .before .before .args .modulus in
     let d = c .before .before .args .degree in
     omega (arith, length-append (number-line (bytes "modulus=") m) (number-line (bytes "degree=") d), number-line-length (bytes "modulus=") m, number-line-length (bytes "degree=") d)

@@ -94,7 +94,7 @@ returns-2 c = heads.no-second f g (c .before .before .before .before .before .be
 
 -- src/lib.rt:105:44
 add-t15 : tie.Need-add-t15
-add-t15 c = 
+add-t15 c =
     let t = c .before .before .before .before .before .before .before .before .before .before .before .before .args .text .now in
     let i = c .before .before .before .before .before .before .before .modulus .given .0 .1 .0 .at in
     omega (arith, fits (c .before .before .before .before .before .before .before), within (keyeds (bytes "degree=") (one-lines numbers)) _ _ _ (found-2 (c .before)), ap length (rest-is t i), length-drop i t)

@@ -97,7 +97,7 @@ refused-answer-requires-2 c κs = search needs
 
 -- src/lib.rt:185:9
 returns-2 : tie.Need-returns-2
-returns-2 c = 
+returns-2 c =
     let s = start (c .before .before .before .before .before .before) in
     parses.answer-none (c .before .before .before .before .before .before .before .before .before .before .before .args .text .now) _ _ (parses.no-first head mark (coeffs-line 1024) answer-count answer-made (c .before .before .before .before .before .before .before .before .before .before .before .args .text .now) s (mark-bad (mark (behind s)) _ (c .before .before .before .read-mark .ensures) (c .before .enum-told2 .given .1))) (c .refused-answer2 .ensures)
 
@@ -140,7 +140,7 @@ same-length c = search needs
 -- src/lib.rt:190:9
 returns-3 : tie.Need-returns-3
 unfolding bytes
-returns-3 c = 
+returns-3 c =
     let a = simple (c .before .before .before .before .before .before .before .before .before .before) in
     parses.answer-none (c .before .before .before .before .before .before .before .before .before .before .before .before .before .before .before .before .before .before .before .before .args .text .now) _ _ (parses.no-second head mark (coeffs-line 1024) answer-count answer-made (c .before .before .before .before .before .before .before .before .before .before .before .before .before .before .before .before .before .before .before .before .args .text .now) (start (c .before .before .before .before .before .before .before .before .before .before .before .before .before .before .before)) a (filled-bad (coeffs-line 1024 (behind a)) _ _ (parses.coeffs-filled 1024 _ (behind a) _ _ (c .before .before .before .before .before .before .before .before .before .before .before .before .before .before .before .before .before .before .before .before .pre) (c .before .before .before .before .before .read-numbers-line .ensures)) (c .before .enum-told3 .given .1))) (c .refused-answer3 .ensures)
 

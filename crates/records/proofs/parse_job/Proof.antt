@@ -113,7 +113,7 @@ same-length c = search needs
 -- src/lib.rt:132:9
 returns-2 : tie.Need-returns-2
 unfolding bytes
-returns-2 c = 
+returns-2 c =
     let s = start (c .before .before .before .before .before .before .before .before .before .before) in
     parses.job-none (c .before .before .before .before .before .before .before .before .before .before .before .before .before .before .before .args .text .now) _ _ _ (parses.no-first head (coeffs-line 64) weights-line job-count job-made (c .before .before .before .before .before .before .before .before .before .before .before .before .before .before .before .args .text .now) s (filled-bad (coeffs-line 64 (behind s)) _ _ (parses.coeffs-filled 64 _ (behind s) _ _ (c .before .before .before .before .before .before .before .before .before .before .before .before .before .before .before .pre .0) (c .before .before .before .before .before .read-numbers-line .ensures)) (c .before .enum-told2 .given .1))) (c .refused-job2 .ensures)
 
@@ -160,7 +160,7 @@ same-length-3 c = search needs
 -- src/lib.rt:137:9
 returns-3 : tie.Need-returns-3
 unfolding bytes
-returns-3 c = 
+returns-3 c =
     let a = coeffs (c .before .before .before .before .before .before .before .before .before) in
     parses.job-none (c .before .before .before .before .before .before .before .before .before .before .before .before .before .before .before .before .before .before .before .before .before .before .before .args .text .now) _ _ _ (parses.no-second head (coeffs-line 64) weights-line job-count job-made (c .before .before .before .before .before .before .before .before .before .before .before .before .before .before .before .before .before .before .before .before .before .before .before .args .text .now) (start (c .before .before .before .before .before .before .before .before .before .before .before .before .before .before .before .before .before .before)) a (filled-bad (weights-line (behind a)) _ _ (parses.weights-filled _ (behind a) _ _ (c .before .before .before .before .before .before .before .before .before .before .before .before .before .before .before .before .before .before .before .before .before .before .before .pre .1) (c .before .before .before .before .read-signeds-line .ensures)) (c .before .enum-told3 .given .1))) (c .refused-job3 .ensures)
 
