@@ -41,7 +41,7 @@ module _ (c : Call) (a : Accepted c) where
 pub never-16 : (c : Call) → refusal c ≡ 16 → ⊥
 unfolding checks modulus-checks polynomial-checks weight-checks room-checks divisor-checks
 never-16 c e =
-    let z : 16 ≡ 0 = sym (first-holds 16 [] (here .0)) ∙ divisor-good (c .p) _ (N c) .1 good in omega arith
+    let z : _≡_ {A = ℕ} 16 0 = sym (first-holds 16 [] (here .0)) ∙ divisor-good (c .p) _ (N c) .1 good in omega arith
   where
     here : (row (checks c) 11 .0 ≡ true) × ((i : ℕ) → i < 11 → row (checks c) i .0 ≡ false)
     here = row-exactly c 11 (omega arith) .0 e

@@ -7,7 +7,7 @@ use mathlib.Core.List.{List, [], _∷_, List·Permᴰ, Permᴰ·refl, List·Perm
 use mathlib.Core.Logic.{∥∥₁-elim}
 use mathlib.Core.HLevel.{⊥-prop}
 use mathlib.Core.List.{List·Nodup, nodup-nil, nodup-cons}
-use Prim.Native.Nat.{ℕ, zero, suc, _*_, _≤_, _<_}
+use Prim.Native.Nat.{ℕ, suc, _*_, _≤_, _<_}
 use native.Mathlib.Nat.{mul-assoc, mul-left-comm, one-mul, mul-pos, suc-ne-zero}
 use native.Mathlib.Omega.{arith}
 use lib.ListN.{length}
