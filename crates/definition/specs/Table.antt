@@ -16,7 +16,7 @@ use Rattle.residues.specs.Trial.{isPrime-iff}
 use Rattle.definition.specs.Refusals.{Call, some-below, bad-weight, first, checks, refusal, Accepted}
 use Rattle.definition.specs.Refusals.{modulus-checks, polynomial-checks, weight-checks, room-checks, divisor-checks, GoodModulus, GoodPolynomial, GoodWeights, GoodRoom, GoodDivisors}
 
--- the row of a table, and what its number and its test are
+-- the row at place j: its test and its number
 abbrev pub row : List (Bool × ℕ) → ℕ → Bool × ℕ
 row rows j = getD rows j (false, 0)
 
