@@ -1,4 +1,5 @@
--- A call that no row of the table refuses has a resolvent, and one only: at most six weights are fewer than p, and N is below p.
+-- A call that no row of the table refuses has a resolvent, and one only: its weights are at most six, fewer than p, and N is
+-- below p, so rules 3 and 4 divide by nothing that is 0 modulo p. For the same reason row 16 never applies.
 use mathlib.Core.Path.{_≡_, sym, _∙_}
 use mathlib.Core.Bool.{true, false}
 use mathlib.Core.List.{List, []}
@@ -37,7 +38,7 @@ module _ (c : Call) (a : Accepted c) where
   pub accepted-only : (b : List ℕ) → Words (c .p) b → Resolvent (residues (c .p)) (c .f) (weights c) b → b ≡ resolvent (c .p) (c .f) (weights c)
   accepted-only = resolvent-only (a .modulus .prime) (c .f) (a .polynomial .words) (weights c) few (a .rooms .below)
 
--- row 16 never applies: where rows 2 to 12 do not, p is a prime above N and above the number of weights
+-- row 16 never applies: where rows 2 to 12 do not, its test fails
 pub never-16 : (c : Call) → refusal c ≡ 16 → ⊥
 unfolding checks modulus-checks polynomial-checks weight-checks room-checks divisor-checks
 never-16 c e =
