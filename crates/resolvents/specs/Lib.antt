@@ -1,3 +1,4 @@
 pub mod Promise
 pub mod Judged
 pub mod Cleared
+pub mod Decided
