@@ -25,7 +25,7 @@ same-exit : (e e' : Exit) → e .outcome .code ≡ e' .outcome .code → e .outc
     → e .output ≡ e' .output → e .work ≡ e' .work → e ≡ e'
 same-exit e e' a b c d f = λ i. exit (a i) (b i) (c i) (d i) (f i)
 
-same-mark : {P : Type 0} (a b : Bool) → (a ≡ true) ↔ P → (b ≡ true) ↔ P → a ≡ b
+pub same-mark : {P : Type 0} (a b : Bool) → (a ≡ true) ↔ P → (b ≡ true) ↔ P → a ≡ b
 same-mark true b f g = sym (g .1 (f .0 refl))
 same-mark false true f g = f .1 (g .0 refl)
 same-mark false false f g = refl

@@ -2,3 +2,4 @@ pub mod Promise
 pub mod Judged
 pub mod Cleared
 pub mod Decided
+pub mod Demands
