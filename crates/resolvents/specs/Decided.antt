@@ -16,7 +16,6 @@ use Rattle.definition.specs.Refusals.{Call, weights, N, room, refusal, Accepted
 use Rattle.definition.specs.Table.{not-refused}
 use Rattle.definition.specs.Accepted.{accepted-right, accepted-below, accepted-only}
 use Rattle.resolvents.specs.Promise.{Exit, Refused, Done, Promise}
-use Rattle.resolvents.specs.declared.Outcome.{Outcome}
 
 abbrev exit : ℕ → ℕ → Bool → List ℕ → List ℕ → Exit
 exit code count simple output work = record { outcome = record { code = code; count = count; simple = simple }; output = output; work = work }

@@ -3,3 +3,4 @@ pub mod Judged
 pub mod Cleared
 pub mod Decided
 pub mod Demands
+pub mod Wrong
