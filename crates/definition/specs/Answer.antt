@@ -17,7 +17,7 @@ use Rattle.residues.specs.Residues.{residues, Words, Z, reduce, ring, laws, wor
 use Rattle.residues.specs.Field.{inverse, nat-inverse, below-apart}
 use Rattle.placements.specs.Multiplicity.{factorials}
 use Rattle.placements.specs.Number.{placed}
-use Rattle.definition.specs.Definition.{nth, sum₁, Rule₁, Resolvent}
+use Rattle.definition.specs.Definition.{nth, sum₁, newton, Rule₁, Resolvent}
 use Rattle.definition.specs.Rules.{T, T-meets, nth-suc, sum₁-cong}
 use Rattle.definition.specs.Carry.{carry}
 use Rattle.definition.specs.Roots.{two-cases}
@@ -92,7 +92,7 @@ module _ {A : Type 0} {o : Ops A} (l : Laws o) where
       at : (k : ℕ) → k ≤ m → getD (grow h (suc m)) k 𝟘 ≡ next-sum o c k (grow h k)
       at k d = getD-grow h (suc m) 𝟘 k (omega arith) ∙ ap (λ j. next-sum o c j (grow h k)) (length-grow h k)
 
-      each : (k : ℕ) → 1 ≤ k → k ≤ m → getD (grow h (suc m)) k 𝟘 ≡ ⊖ (nat o k ⊗ nth o c k ⊕ sum₁ o (k - 1) (λ i. nth o c i ⊗ getD (grow h (suc m)) (k - i) 𝟘))
+      each : (k : ℕ) → 1 ≤ k → k ≤ m → getD (grow h (suc m)) k 𝟘 ≡ newton o c (λ i. getD (grow h (suc m)) i 𝟘) k
       each zero a d = absurd (omega arith)
       each (suc j) a d =
           at (suc j) d

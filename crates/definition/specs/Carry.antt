@@ -1,6 +1,6 @@
 -- A map that keeps the operations carries a resolvent along: each rule is an equation between terms of the operations.
 -- No law of either side is used.
-use mathlib.Core.Path.{_≡_, refl, sym, ap, _∙_}
+use mathlib.Core.Path.{_≡_, sym, ap, _∙_}
 use mathlib.Core.List.{List, map}
 use Prim.Native.Nat.{ℕ, suc, _-_}
 use native.Mathlib.Omega.{arith}
@@ -11,7 +11,6 @@ use Rattle.algebra.specs.Power.{nat}
 use Rattle.algebra.specs.Hom.{Hom, hom-pow, hom-nat, hom-int, hom-sum}
 use Rattle.placements.specs.Number.{placed}
 use Rattle.definition.specs.Definition.{nth, sum₁, Rule₁, Rule₂, Resolvent}
-use Rattle.definition.specs.Rules.{T, T-meets, same-T}
 
 module _ {A B : Type 0} {o : Ops A} {q : Ops B} {φ : A → B} (m : Hom o q φ) where
   pub hom-nth : (c : List A) (k : ℕ) → φ (nth o c k) ≡ nth q (map φ c) k
@@ -29,14 +28,11 @@ module _ {A B : Type 0} {o : Ops A} {q : Ops B} {φ : A → B} (m : Hom o q φ) 
     longer = λ e M k. simp (m .at-add, m .at-neg, m .at-mul, hom-nat m, hom-pow m, hom-int m, hom-sum m) at (ap φ (h .longer e M k));
   }
 
-  pub hom-T : (s : ℕ → A) (L : List ℤ) (k : ℕ) → φ (T o s L k) ≡ T q (λ i. φ (s i)) L k
-  hom-T s L k = same-T q (hom-Rule₂ s (T o s) (T-meets o s)) (T-meets q (λ i. φ (s i))) L k (λ i d. refl)
-
   hom-Rule₁ : (c : List A) (n : ℕ) (s : ℕ → A) → Rule₁ o c n s → Rule₁ q (map φ c) n (λ k. φ (s k))
   hom-Rule₁ c n s h = record {
     zeroth = ap φ (h .zeroth) ∙ hom-nat m (length c) ∙ ap (nat q) (sym (length-map c φ));
     low = λ k a b d. simp (m .at-neg, m .at-add, m .at-mul, hom-nat m, hom-nth, hom-sum₁) at (ap φ (h .low k a (omega (arith, length-map c φ)) d));
-    high = λ k a b. (simp (m .at-neg, m .at-mul, hom-nth, hom-sum₁) at (ap φ (h .high k (omega (arith, length-map c φ)) b))) ∙ ap (λ n. q .neg (sum₁ q n (λ i. q .mul (nth q (map φ c) i) (φ (s (k - i)))))) (sym (length-map c φ));
+    high = λ k a b. rw (length-map c φ) (simp (m .at-neg, m .at-mul, hom-nth, hom-sum₁) at (ap φ (h .high k (omega (arith, length-map c φ)) b)));
   }
 
   pub carry : (c : List A) (L : List ℤ) (b : List A) → Resolvent o c L b → Resolvent q (map φ c) L (map φ b)

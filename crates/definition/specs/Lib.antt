@@ -6,9 +6,9 @@ pub mod Roots
 pub mod Split
 pub mod Words
 pub mod Answer
-pub mod Turns
 pub mod Refusals
 pub mod Table
 pub mod Accepted
+pub mod Turns
 pub mod Edges
 pub mod Cases

@@ -31,10 +31,10 @@ module _ {A : Type 0} (o : Ops A) where
       step zero ih b = h .zeroth ∙ sym (h' .zeroth)
       step (suc j) ih b = elim (decLe (suc j) (length c)) [
         | yes q ↦ h .low (suc j) (omega arith) q b
-            ∙ ap (λ x. ⊖ (nat o (suc j) ⊗ nth o c (suc j) ⊕ x)) (sum₁-cong o (suc j - 1) _ _ (λ i u d. ap (λ x. nth o c i ⊗ x) (ih (suc j - i) (omega arith) (omega arith))))
+            ∙ ap (λ x. ⊖ (nat o (suc j) ⊗ nth o c (suc j) ⊕ x)) (sum₁-cong o _ _ _ (λ i u d. ap (λ x. nth o c i ⊗ x) (ih (suc j - i) (omega arith) (omega arith))))
             ∙ sym (h' .low (suc j) (omega arith) q b)
         | no q ↦ h .high (suc j) (omega arith) b
-            ∙ ap (λ x. ⊖ x) (sum₁-cong o (length c) _ _ (λ i u d. ap (λ x. nth o c i ⊗ x) (ih (suc j - i) (omega arith) (omega arith))))
+            ∙ ap (λ x. ⊖ x) (sum₁-cong o _ _ _ (λ i u d. ap (λ x. nth o c i ⊗ x) (ih (suc j - i) (omega arith) (omega arith))))
             ∙ sym (h' .high (suc j) (omega arith) b)
       ]
 
@@ -47,7 +47,7 @@ module _ {A : Type 0} (o : Ops A) where
 
       step : (k : ℕ) → ((i : ℕ) → i < k → 1 ≤ i → i ≤ placed (length c) L → nth o b i ≡ nth o b' i) → 1 ≤ k → k ≤ placed (length c) L → nth o b k ≡ nth o b' k
       step k ih a h = cancels k a h _ _ (r .rule₄ k a h
-          ∙ ap₂ (λ x y. ⊖ (x ⊕ y)) (powers k h) (sum₁-cong o (k - 1) _ _ (λ i u d. ap₂ _⊗_ (ih i (omega arith) u (omega arith)) (powers (k - i) (omega arith))))
+          ∙ ap₂ (λ x y. ⊖ (x ⊕ y)) (powers k h) (sum₁-cong o _ _ _ (λ i u d. ap₂ _⊗_ (ih i (omega arith) u (omega arith)) (powers (k - i) (omega arith))))
           ∙ sym (r' .rule₄ k a h))
 
       nths : (k : ℕ) → 1 ≤ k → k ≤ placed (length c) L → nth o b k ≡ nth o b' k

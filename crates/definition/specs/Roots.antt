@@ -6,7 +6,7 @@ use mathlib.Core.List.{List, [], _∷_, map}
 use Prim.Native.Nat.{ℕ, zero, suc, _+_, _-_, _≤_, _<_}
 use native.Mathlib.Decide.{decLt}
 use native.Mathlib.Omega.{arith}
-use lib.ListN.{length, getD}
+use lib.ListN.{length, length-map, getD}
 use lib.IntN.{ℤ}
 use Rattle.algebra.specs.Ring.{Ops, Laws}
 use Rattle.algebra.specs.Ring as R
@@ -15,7 +15,8 @@ use Rattle.algebra.specs.Sum.{sum, sum-cong, sum-append, sum-zeros}
 use Rattle.algebra.specs.Newton.{coeff, coeff-past, newton-next, power-sum, power-sum-zero}
 use Rattle.algebra.specs.Integer.{ℤ-eq}
 use Rattle.placements.specs.Placements.{placements, value}
-use Rattle.definition.specs.Definition.{nth, sum₁, Rule₁}
+use Rattle.placements.specs.Number.{placed, placed-number}
+use Rattle.definition.specs.Definition.{nth, sum₁, newton, Rule₁}
 use Rattle.definition.specs.Rules.{nth-suc, nth-past, sum₁-is}
 
 -- g 1, .., g n
@@ -39,9 +40,14 @@ module _ {A : Type 0} (o : Ops A) where
   unfoldable pub product : List A → List A
   product rs = listed (length rs) (coeff o rs)
 
-  -- the weighted sums of all different ways to lay the weights L on the listed roots
+  -- the weighted sums of all placements of the weights L on the listed roots
   unfoldable pub values : List A → List ℤ → List A
   values rs L = map (value o (int o) rs) (placements ℤ-eq (length rs) L)
+
+  -- one for each placement, also where some are equal
+  pub length-values : (rs : List A) (L : List ℤ) → length (values rs L) ≡ placed (length rs) L
+  unfolding values
+  length-values rs L = length-map (placements ℤ-eq (length rs) L) _ ∙ placed-number (length rs) L
 
 module _ {A : Type 0} {o : Ops A} (l : Laws o) where
   open Ops o using (zero as 𝟘, one as 𝟙, add as _⊕_, mul as _⊗_, neg as ⊖_)
@@ -62,9 +68,9 @@ module _ {A : Type 0} {o : Ops A} (l : Laws o) where
   ]
 
   -- Newton's identity at any place
-  pub newton-at : (rs : List A) (k : ℕ) → 1 ≤ k → power-sum o rs k ≡ ⊖ (nat o k ⊗ nth o (product o rs) k ⊕ sum₁ o (k - 1) (λ i. nth o (product o rs) i ⊗ power-sum o rs (k - i)))
-  newton-at rs zero h = absurd (omega arith)
-  newton-at rs (suc j) h = newton-next l rs j ∙ ap₂ (λ x y. ⊖ (nat o (suc j) ⊗ x ⊕ y)) (sym (nth-product rs (suc j) h))
+  pub newton-for-roots : (rs : List A) (k : ℕ) → 1 ≤ k → power-sum o rs k ≡ newton o (product o rs) (power-sum o rs) k
+  newton-for-roots rs zero h = absurd (omega arith)
+  newton-for-roots rs (suc j) h = newton-next l rs j ∙ ap₂ (λ x y. ⊖ (nat o (suc j) ⊗ x ⊕ y)) (sym (nth-product rs (suc j) h))
       (sum-cong o j _ _ (λ i b. ap₂ _⊗_ (sym (nth-product rs (suc i) (omega arith))) (ap (power-sum o rs) (omega arith))) ∙ sym (sum₁-is o j _) ∙ ap (λ n. sum₁ o n (λ i. nth o (product o rs) i ⊗ power-sum o rs (suc j - i))) (omega arith))
 
   -- past the degree the sum ends with the coefficients
@@ -80,16 +86,8 @@ module _ {A : Type 0} {o : Ops A} (l : Laws o) where
 
   -- rule 1's one equation for every k is document 01's two
   pub two-cases : (c : List A) (m : ℕ) (s : ℕ → A) → s 0 ≡ nat o (length c)
-      → ((k : ℕ) → 1 ≤ k → k ≤ m → s k ≡ ⊖ (nat o k ⊗ nth o c k ⊕ sum₁ o (k - 1) (λ i. nth o c i ⊗ s (k - i)))) → Rule₁ o c m s
+      → ((k : ℕ) → 1 ≤ k → k ≤ m → s k ≡ newton o c s k) → Rule₁ o c m s
   two-cases c m s z h = record { zeroth = z; low = λ k a b d. h k a d; high = λ k a d. h k (omega arith) d ∙ past-degree c k (λ i. s (k - i)) a }
 
-  -- and back
-  pub one-equation : (c : List A) (m : ℕ) (s : ℕ → A) → Rule₁ o c m s
-      → (k : ℕ) → 1 ≤ k → k ≤ m → s k ≡ ⊖ (nat o k ⊗ nth o c k ⊕ sum₁ o (k - 1) (λ i. nth o c i ⊗ s (k - i)))
-  one-equation c m s h k a b = elim (decLt (length c) k) [
-    | yes q ↦ h .high k q b ∙ sym (past-degree c k (λ i. s (k - i)) q)
-    | no q ↦ h .low k a (omega arith) b
-  ]
-
   pub sums-of-roots : (rs : List A) (m : ℕ) → Rule₁ o (product o rs) m (power-sum o rs)
-  sums-of-roots rs m = two-cases _ m _ (power-sum-zero o rs ∙ ap (nat o) (sym (length-product rs))) (λ k a b. newton-at rs k a)
+  sums-of-roots rs m = two-cases _ m _ (power-sum-zero o rs ∙ ap (nat o) (sym (length-product rs))) (λ k a b. newton-for-roots rs k a)

@@ -8,18 +8,15 @@ use Prim.Native.Nat.{ℕ, zero, suc, _≤_, _<_, _%_}
 use native.Mathlib.Nat as N
 use native.Mathlib.Decide.{ℕ-discrete}
 use native.Mathlib.Omega.{arith}
-use lib.Dec.{leb, ltb, eqb}
+use lib.Dec.{eqb}
 use borrow.Author.Tests.{ltb-false, leb-false, eqb-false, le-ltb, lt-leb, ne-eqb, not-false}
 use lib.ListN.{length, getD}
-use lib.IntN.{ℤ, pos, natAbs}
-use Rattle.algebra.specs.Integer.{ℤ-eq}
-use Rattle.residues.specs.Trial.{isPrime, isPrime-iff}
-use Rattle.residues.specs.Residues.{Words}
-use Rattle.placements.specs.Multiplicity.{factorials}
-use Rattle.definition.specs.Refusals.{Call, weights, some-below, bad-weight, first, checks, refusal, Weight, Accepted}
+use lib.IntN.{ℤ}
+use Rattle.residues.specs.Trial.{isPrime-iff}
+use Rattle.definition.specs.Refusals.{Call, some-below, bad-weight, first, checks, refusal, Accepted}
 use Rattle.definition.specs.Refusals.{modulus-checks, polynomial-checks, weight-checks, room-checks, divisor-checks, GoodModulus, GoodPolynomial, GoodWeights, GoodRoom, GoodDivisors}
 
--- the row of a table, and what its number and its test are
+-- the row at place j: its test and its number
 abbrev pub row : List (Bool × ℕ) → ℕ → Bool × ℕ
 row rows j = getD rows j (false, 0)
 
@@ -140,13 +137,13 @@ pub modulus-good : (p : ℕ) → (first (modulus-checks p) ≡ 0) ↔ GoodModulu
 unfolding modulus-checks
 modulus-good p = (
   λ e.
-      let a = clear _ 2 _ (omega arith) e in
-      let b = clear _ 3 [] (omega arith) (a .1) in
+      let a = clear _ _ _ (omega arith) e in
+      let b = clear _ _ _ (omega arith) (a .1) in
       let w = neither _ _ (a .0) in
       record { low = ltb-false _ _ (w .0); high = ltb-false _ _ (w .1); prime = isPrime-iff p .0 (not-false _ (b .0)) },
   λ g.
-      first-passes 2 _ (or-none (le-ltb _ _ (g .low)) (le-ltb _ _ (g .high)))
-      ∙ first-passes 3 [] (ap not (isPrime-iff p .1 (g .prime)))
+      first-passes _ _ (or-none (le-ltb _ _ (g .low)) (le-ltb _ _ (g .high)))
+      ∙ first-passes _ _ (ap not (isPrime-iff p .1 (g .prime)))
       ∙ first-nil,
 )
 
@@ -154,13 +151,13 @@ pub polynomial-good : (p : ℕ) (f : List ℕ) → (first (polynomial-checks p f
 unfolding polynomial-checks
 polynomial-good p f = (
   λ e.
-      let a = clear _ 4 _ (omega arith) e in
-      let b = clear _ 5 [] (omega arith) (a .1) in
+      let a = clear _ _ _ (omega arith) e in
+      let b = clear _ _ _ (omega arith) (a .1) in
       let w = neither _ _ (a .0) in
       record { some = N.pos-of-ne-zero (eqb-false _ _ (w .0)); high = ltb-false _ _ (w .1); words = λ i h. leb-false _ _ (none-below _ _ (b .0) i h) },
   λ g.
-      first-passes 4 _ (or-none (not-none _ (g .some)) (le-ltb _ _ (g .high)))
-      ∙ first-passes 5 [] (below-none _ _ (λ i h. lt-leb _ _ (g .words i h)))
+      first-passes _ _ (or-none (not-none _ (g .some)) (le-ltb _ _ (g .high)))
+      ∙ first-passes _ _ (below-none _ _ (λ i h. lt-leb _ _ (g .words i h)))
       ∙ first-nil,
 )
 
@@ -168,9 +165,9 @@ pub weight-good : (n r : ℕ) (L : List ℤ) → (first (weight-checks n r L) �
 unfolding weight-checks bad-weight
 weight-good n r L = (
   λ e.
-      let a = clear _ 6 _ (omega arith) e in
-      let b = clear _ 7 _ (omega arith) (a .1) in
-      let d = clear _ 8 [] (omega arith) (b .1) in
+      let a = clear _ _ _ (omega arith) e in
+      let b = clear _ _ _ (omega arith) (a .1) in
+      let d = clear _ _ _ (omega arith) (b .1) in
       let w = neither _ _ (a .0) in
       record {
         some = N.pos-of-ne-zero (eqb-false _ _ (w .0));
@@ -179,9 +176,9 @@ weight-good n r L = (
         each = λ i h. let v = neither _ _ (none-below _ _ (d .0) i h) in (N.pos-of-ne-zero (eqb-false _ _ (v .0)), ltb-false _ _ (v .1));
       },
   λ g.
-      first-passes 6 _ (or-none (not-none _ (g .some)) (le-ltb _ _ (g .high)))
-      ∙ first-passes 7 _ (le-ltb _ _ (g .fits))
-      ∙ first-passes 8 [] (below-none _ _ (λ i h. or-none (not-none _ (g .each i h .0)) (le-ltb _ _ (g .each i h .1))))
+      first-passes _ _ (or-none (not-none _ (g .some)) (le-ltb _ _ (g .high)))
+      ∙ first-passes _ _ (le-ltb _ _ (g .fits))
+      ∙ first-passes _ _ (below-none _ _ (λ i h. or-none (not-none _ (g .each i h .0)) (le-ltb _ _ (g .each i h .1))))
       ∙ first-nil,
 )
 
@@ -189,16 +186,16 @@ pub room-good : (p n output work : ℕ) → (first (room-checks p n output work)
 unfolding room-checks
 room-good p n output work = (
   λ e.
-      let a = clear _ 9 _ (omega arith) e in
-      let b = clear _ 10 _ (omega arith) (a .1) in
-      let d = clear _ 11 _ (omega arith) (b .1) in
-      let f = clear _ 12 [] (omega arith) (d .1) in
+      let a = clear _ _ _ (omega arith) e in
+      let b = clear _ _ _ (omega arith) (a .1) in
+      let d = clear _ _ _ (omega arith) (b .1) in
+      let f = clear _ _ _ (omega arith) (d .1) in
       record { high = ltb-false _ _ (a .0); below = leb-false _ _ (b .0); output-fits = ltb-false _ _ (d .0); work-fits = ltb-false _ _ (f .0) },
   λ g.
-      first-passes 9 _ (le-ltb _ _ (g .high))
-      ∙ first-passes 10 _ (lt-leb _ _ (g .below))
-      ∙ first-passes 11 _ (le-ltb _ _ (g .output-fits))
-      ∙ first-passes 12 [] (le-ltb _ _ (g .work-fits))
+      first-passes _ _ (le-ltb _ _ (g .high))
+      ∙ first-passes _ _ (lt-leb _ _ (g .below))
+      ∙ first-passes _ _ (le-ltb _ _ (g .output-fits))
+      ∙ first-passes _ _ (le-ltb _ _ (g .work-fits))
       ∙ first-nil,
 )
 
@@ -206,9 +203,9 @@ pub divisor-good : (p product n : ℕ) → (first (divisor-checks p product n) �
 unfolding divisor-checks
 divisor-good p product n = (
   λ e.
-      let w = neither _ _ (clear _ 16 [] (omega arith) e .0) in
+      let w = neither _ _ (clear _ _ _ (omega arith) e .0) in
       record { product-apart = eqb-false _ _ (w .0); each-apart = λ k a b. each (w .1) k a b },
-  λ g. first-passes 16 [] (or-none (ne-eqb _ _ (g .product-apart)) (below-none _ _ (λ i h. ne-eqb _ _ (g .each-apart (suc i) (omega arith) h)))) ∙ first-nil,
+  λ g. first-passes _ _ (or-none (ne-eqb _ _ (g .product-apart)) (below-none _ _ (λ i h. ne-eqb _ _ (g .each-apart (suc i) (omega arith) h)))) ∙ first-nil,
 )
   where
     each : some-below (λ i. eqb (suc i % p) 0) n ≡ false → (k : ℕ) → 1 ≤ k → k ≤ n → k % p ≡ 0 → ⊥

@@ -1,22 +1,32 @@
--- Document 01, "Wrong turns that look right", each ruled out by a theorem.
--- Two are about numbers that rule 2 gives, and both come of its first sum being n T(M) and of a collision for each position:
--- T_0 of r weights is n (n - 1) .. (n - r + 1), and T of 0 ∷ M is n - length M times T of M. The other two are about N.
--- The fifth, taking a k-th root through the derivative, has no place here: rule 3 divides power sums, and no root is taken.
-use mathlib.Core.Path.{_≡_, sym, ap, ap₂, _∙_}
-use mathlib.Core.List.{List, [], _∷_}
-use Prim.Native.Nat.{ℕ, zero, suc, _+_, _-_, _≤_}
+-- Document 01, "Wrong turns that look right": each is ruled out by a theorem about the definition.
+-- What rule 2 gives for e ∷ M is n T_k(M) less one T_k(M) for each position, where e = 0 and where k = 0. So a 0 in a list is a
+-- factor n - length M, and T_0 of r weights is n (n - 1) .. (n - r + 1), which a collision for each different weight would not give.
+-- Equal weights and repeated roots are matters of N, the number of placements.
+-- Taking the k-th root through the derivative has no place here: rule 3 divides power sums, and no root is taken.
+use mathlib.Core.Path.{_≡_, refl, sym, ap, ap₂, _∙_}
+use mathlib.Core.List.{List, [], _∷_, flatMap}
+use Prim.Native.Nat.{ℕ, zero, suc, _+_, _*_, _-_, _≤_, _<_}
 use native.Mathlib.Nat as N
 use native.Mathlib.Omega.{arith}
 use lib.ListN.{length}
-use lib.IntN.{ℤ, pos, _+ℤ_, +ℤ-idr}
+use lib.Seq.{set-getD}
+use lib.IntN.{ℤ, pos, negsuc, _+ℤ_, +ℤ-idr}
 use Rattle.algebra.specs.Ring.{Ops, Laws}
 use Rattle.algebra.specs.Ring as R
-use Rattle.algebra.specs.Power.{pow, pow-zero, pow-suc, nat, nat-zero, nat-one, nat-suc, nat-add, int, int-pos}
-use Rattle.algebra.specs.Sum.{sum-cong, sum-first, sum-zeros, total}
-use Rattle.algebra.specs.Binomial.{choose, choose-zero}
-use Rattle.placements.specs.Laying.{collisions, collisions-nil, collisions-cons}
-use Rattle.placements.specs.Places.{collisions-places}
-use Rattle.definition.specs.Rules.{T, T-cons}
+use Rattle.algebra.specs.Power.{pow, pow-zero, pow-suc, nat, nat-zero, nat-one, nat-suc, nat-add, nat-mul, int, int-pos}
+use Rattle.algebra.specs.Sum.{sum, sum-zero, sum-suc, sum-cong, sum-first, sum-zeros}
+use Rattle.algebra.specs.Binomial.{fact, choose, choose-zero, falling, falling-zero, falling-step}
+use Rattle.algebra.specs.Newton.{times-root, coeff}
+use Rattle.algebra.specs.Series.{monomial}
+use Rattle.algebra.specs.Integer.{ℤ-eq}
+use Rattle.residues.specs.Residues.{residues, Words}
+use Rattle.placements.specs.Multiplicity.{prod, count, without, except, different, factorials}
+use Rattle.placements.specs.Placements.{placements, value}
+use Rattle.placements.specs.Places.{with-sum, length-with-sum}
+use Rattle.placements.specs.Number.{placed}
+use Rattle.definition.specs.Definition.{Rule₂, Resolvent}
+use Rattle.definition.specs.Roots.{listed, product, values}
+use Rattle.definition.specs.Words.{split-words}
 
 module _ {A : Type 0} {o : Ops A} (l : Laws o) where
   open Ops o using (zero as 𝟘, one as 𝟙, add as _⊕_, mul as _⊗_, neg as ⊖_)
@@ -24,25 +34,78 @@ module _ {A : Type 0} {o : Ops A} (l : Laws o) where
   infixl 60 _⊕_
   infixl 70 _⊗_
   infix 80 ⊖_
-  -- adding 0 at each position gives the list itself, once for each position
-  collisions-zero : (M : List ℤ) (F : List ℤ → A) → total o (collisions _+ℤ_ (pos 0) M) F ≡ nat o (length M) ⊗ F M
-  collisions-zero [] F = rw (collisions-nil (l .semi), nat-zero o) (sym (R.zero-mul (l .semi) _))
-  collisions-zero (d ∷ M) F = collisions-cons (l .semi) _+ℤ_ (pos 0) d M F
-      ∙ ap₂ _⊕_ (ap (λ x. F (x ∷ M)) (+ℤ-idr d)) (collisions-zero M (λ M'. F (d ∷ M')))
-      ∙ sym (ap (λ x. x ⊗ F (d ∷ M)) (nat-suc o (length M)) ∙ R.add-mul (l .semi) _ _ _ ∙ ap (λ x. x ⊕ nat o (length M) ⊗ F (d ∷ M)) (R.one-mul (l .semi) _))
+  sum-same : (m : ℕ) (x : A) → sum o m (λ j. x) ≡ nat o m ⊗ x
+  sum-same zero x = rw (sum-zero o, nat-zero o) (sym (R.zero-mul (l .semi) x))
+  sum-same (suc m) x = rw (sum-suc o, sum-same m x, nat-suc o m) (simp (R.semiring, l .semi))
 
-  later : (s : ℕ → A) (M : List ℤ) (k i : ℕ) → nat o (choose k (suc i)) ⊗ (pow o (int o (pos 0)) (suc i) ⊗ s (suc i) ⊗ T o s M (k - suc i)) ≡ 𝟘
-  later s M k i = rw (int-pos o 0, nat-zero o) (simp (pow-suc, R.semiring, l .semi))
+  added-and-taken : (x y : A) → x ⊕ y ⊕ ⊖ y ≡ x
+  added-and-taken x y = simp (R.ring, l, l .semi)
 
-  collect : (n m x : A) → (n ⊕ m) ⊗ x ⊕ ⊖ (m ⊗ x) ≡ n ⊗ x
-  collect n m x = simp (R.ring, l, l .semi)
+  module _ {s : ℕ → A} {t : List ℤ → ℕ → A} (rule₂ : Rule₂ o s t) (n : ℕ) (zeroth : s 0 ≡ nat o n) where
+    -- where the first sum has its first term only, and no collision changes T_k
+    unchanged : (e : ℤ) (M : List ℤ) (k : ℕ)
+        → ((i : ℕ) → i < k → nat o (choose k (suc i)) ⊗ (pow o (int o e) (suc i) ⊗ s (suc i) ⊗ t M (k - suc i)) ≡ 𝟘)
+        → ((j : ℕ) → j < length M → t (with-sum M j e) k ≡ t M k)
+        → t (e ∷ M) k ≡ nat o n ⊗ t M k ⊕ ⊖ (nat o (length M) ⊗ t M k)
+    unchanged e M k later same =
+        rule₂ .longer e M k
+        ∙ ap₂ (λ x y. x ⊕ ⊖ y)
+        (sum-first (l .semi) k _ ∙ ap₂ _⊕_ first (sum-cong o k _ _ later ∙ sum-zeros (l .semi) k) ∙ R.add-zero (l .semi) _)
+        (sum-cong o _ _ _ same ∙ sum-same (length M) (t M k))
+      where
+        first : nat o (choose k 0) ⊗ (pow o (int o e) 0 ⊗ s 0 ⊗ t M (k - 0)) ≡ nat o n ⊗ t M k
+        first = rw (choose-zero k, nat-one (l .semi), pow-zero o (int o e), zeroth, N.sub-zero) (simp (R.products, l .semi))
 
-  pub zero-weight : (s : ℕ → A) (n : ℕ) → s 0 ≡ nat o n → (M : List ℤ) → length M ≤ n → (k : ℕ) → T o s (pos 0 ∷ M) k ≡ nat o (n - length M) ⊗ T o s M k
-  zero-weight s n z M h k =
-      T-cons o s (pos 0) M k
-      ∙ ap₂ (λ x y. x ⊕ ⊖ y) (sum-first (l .semi) k _ ∙ ap₂ _⊕_ first (sum-cong o k _ _ (λ i b. later s M k i) ∙ sum-zeros (l .semi) k) ∙ R.add-zero (l .semi) _) (sym (collisions-places (l .semi) (pos 0) M (λ M'. T o s M' k)) ∙ collisions-zero M (λ M'. T o s M' k))
-      ∙ ap (λ x. x ⊗ T o s M k ⊕ ⊖ (nat o (length M) ⊗ T o s M k)) (ap (nat o) (sym (N.sub-add-cancel h)) ∙ nat-add (l .semi) (n - length M) (length M))
-      ∙ collect _ _ _
-    where
-      first : nat o (choose k 0) ⊗ (pow o (int o (pos 0)) 0 ⊗ s 0 ⊗ T o s M (k - 0)) ≡ nat o n ⊗ T o s M k
-      first = rw (choose-zero k, nat-one (l .semi), pow-zero o (int o (pos 0)), z, N.sub-zero) (simp (R.products, l .semi))
+    zeroth-at : (r : ℕ) (L : List ℤ) → length L ≡ r → t L 0 ≡ nat o (falling n r)
+    zeroth-at zero [] h = rule₂ .empty ∙ sym (ap (nat o) (falling-zero n) ∙ nat-one (l .semi))
+    zeroth-at zero (e ∷ M) h = absurd (omega arith)
+    zeroth-at (suc r) [] h = absurd (omega arith)
+    zeroth-at (suc r) (e ∷ M) h =
+        let rest : length M ≡ r = omega arith in
+        let step : n * falling n r ≡ falling n (suc r) + r * falling n r = omega (arith, falling-step n r) in
+        unchanged e M 0 (λ i b. absurd (omega arith)) (λ j b. zeroth-at r (with-sum M j e) (length-with-sum M j e ∙ rest) ∙ sym (zeroth-at r M rest))
+        ∙ rw (zeroth-at r M rest, rest, ← nat-mul (l .semi) n, ← nat-mul (l .semi) r, step, nat-add (l .semi)) (added-and-taken _ _)
+
+    -- T_0 of r weights is n (n - 1) .. (n - r + 1): the collisions are taken off once for each position
+    pub zeroth-T : (L : List ℤ) → t L 0 ≡ nat o (falling n (length L))
+    zeroth-T L = zeroth-at (length L) L refl
+
+    -- a weight 0 neither ends a list nor may be left out: it is the factor n - length M
+    pub zero-weight : (M : List ℤ) → length M ≤ n → (k : ℕ) → t (pos 0 ∷ M) k ≡ nat o (n - length M) ⊗ t M k
+    unfolding with-sum
+    zero-weight M h k =
+        unchanged (pos 0) M k (λ i b. rw (int-pos o 0, nat-zero o) (simp (pow-suc, R.semiring, l .semi))) (λ j b. ap (λ M'. t M' k) (rw +ℤ-idr (set-getD M j (pos 0))))
+        ∙ ap (λ x. x ⊗ t M k ⊕ ⊖ (nat o (length M) ⊗ t M k)) (ap (nat o) (sym (N.sub-add-cancel h)) ∙ nat-add (l .semi) (n - length M) (length M))
+        ∙ rw (R.add-mul (l .semi)) (added-and-taken _ _)
+
+    -- for the weights 1, -1, 1 the list 0, 1 comes up, and its T_k is n - 1 times that of the list 1
+    pub zero-comes-up : 1 ≤ n → (k : ℕ) → t (with-sum (negsuc 0 ∷ pos 1 ∷ []) 0 (pos 1)) k ≡ nat o (n - 1) ⊗ t (pos 1 ∷ []) k
+    unfolding with-sum
+    zero-comes-up h k = zero-weight (pos 1 ∷ []) h k
+
+module _ {A : Type 0} (o : Ops A) (b : List A) where
+  -- equal weights laid as if they differed: on two roots 1,1 has one placement, so B has degree 1 and not 2
+  pub B-degree : (c₁ c₂ : A) → Resolvent o (c₁ ∷ c₂ ∷ []) (pos 1 ∷ pos 1 ∷ []) b → length b ≡ 1
+  unfolding placed falling factorials prod different except count fact ℤ-eq
+  B-degree c₁ c₂ r = r .size
+
+  -- repeated factors dropped: on three roots 2,1 has six placements, so J has degree 6 and not 4
+  pub J-degree : (c₁ c₂ c₃ : A) → Resolvent o (c₁ ∷ c₂ ∷ c₃ ∷ []) (pos 2 ∷ pos 1 ∷ []) b → length b ≡ 6
+  unfolding placed falling factorials prod different except count fact ℤ-eq
+  J-degree c₁ c₂ c₃ r = r .size
+
+-- J's weighted sums, in the order of the placements: both pairs are there
+pub J-sums : values (residues 257) (1 ∷ 2 ∷ 3 ∷ []) (pos 2 ∷ pos 1 ∷ []) ≡ 7 ∷ 8 ∷ 5 ∷ 4 ∷ 7 ∷ 5 ∷ []
+unfolding values placements value different except without ℤ-eq flatMap residues int nat
+J-sums = refl
+
+-- and J's resolvent is the product of x - v over 4, 5, 5, 7, 7, 8
+pub J-keeps-pairs : Resolvent (residues 257) (251 ∷ 11 ∷ 251 ∷ []) (pos 2 ∷ pos 1 ∷ []) (product (residues 257) (4 ∷ 5 ∷ 5 ∷ 7 ∷ 7 ∷ 8 ∷ []))
+unfolding product listed coeff times-root monomial residues
+J-keeps-pairs = rw J-sums at (split-words {p = 257} (omega arith) (1 ∷ 2 ∷ 3 ∷ []) below (pos 2 ∷ pos 1 ∷ []))
+  where
+    below : Words 257 (1 ∷ 2 ∷ 3 ∷ [])
+    below zero h = omega arith
+    below (suc zero) h = omega arith
+    below (suc (suc zero)) h = omega arith
+    below (suc (suc (suc i))) h = absurd (omega arith)

@@ -63,12 +63,6 @@ module _ {A : Type 0} {o : Ops A} (s : Semi o) {W : Type 0} where
   removals-cong (w ∷ L) F G h = rw (removals-cons w L F, removals-cons w L G, h (w, L) refl)
       (ap (λ x. G (w, L) ⊕ x) (removals-cong L (λ p. F (p .0, w ∷ p .1)) (λ p. G (p .0, w ∷ p .1)) (λ p q. h (p .0, w ∷ p .1) (ap suc q))))
 
-  -- each list has the length of M
-  pub collisions-cong : (plus : W → W → W) (e : W) (M : List W) (F G : List W → A) → ((M' : List W) → length M' ≡ length M → F M' ≡ G M') → total o (collisions plus e M) F ≡ total o (collisions plus e M) G
-  collisions-cong plus e [] F G h = simp collisions-nil
-  collisions-cong plus e (d ∷ M) F G h = rw (collisions-cons plus e d M F, collisions-cons plus e d M G, h (plus d e ∷ M) refl)
-      (ap (λ x. G (plus d e ∷ M) ⊕ x) (collisions-cong plus e M (λ M'. F (d ∷ M')) (λ M'. G (d ∷ M')) (λ M' q. h (d ∷ M') (ap suc q))))
-
 module _ {A : Type 0} (o : Ops A) {W : Type 0} (cast : W → A) where
   infixl 60 _⊕_
   infixl 70 _⊗_

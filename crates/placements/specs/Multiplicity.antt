@@ -2,12 +2,11 @@
 -- The product grows by the factor 1 + count when a weight joins (`factorials-cons`): apart from that weight nothing changes,
 -- which holds alike of sums and products over the different weights, so it is said once of both (`split`).
 use mathlib.Core.Path.{_≡_, refl, sym, _∙_, ap, fun-ext}
-use mathlib.Core.Logic.{ite, if-pos, if-neg, by-cases, ⊎-elim}
-use mathlib.Core.List.{List, [], _∷_, List·Permᴰ, Permᴰ·refl, List·Permᴰ·nil as pnil, List·Permᴰ·cons as pcons, List·Permᴰ·swap as pswap, List·Permᴰ·trans as ptrans, List·Memᴰ, List·Memᴰ·not-nil, List·Memᴰ·cases-cons, List·Memᴰ·head as mhead, List·Memᴰ·tail as mtail}
-use mathlib.Core.Logic.{∥∥₁-elim}
+use mathlib.Core.Logic.{ite, if-pos, if-neg, by-cases, ⊎-elim, ∥∥₁-elim}
 use mathlib.Core.HLevel.{⊥-prop}
-use mathlib.Core.List.{List·Nodup, nodup-nil, nodup-cons}
-use Prim.Native.Nat.{ℕ, zero, suc, _*_, _≤_, _<_}
+use mathlib.Core.List.{List, [], _∷_, List·Permᴰ, Permᴰ·refl, List·Permᴰ·nil as pnil, List·Permᴰ·cons as pcons, List·Permᴰ·swap as pswap, List·Permᴰ·trans as ptrans}
+use mathlib.Core.List.{List·Memᴰ, List·Memᴰ·not-nil, List·Memᴰ·cases-cons, List·Memᴰ·head as mhead, List·Memᴰ·tail as mtail, List·Nodup, nodup-nil, nodup-cons}
+use Prim.Native.Nat.{ℕ, suc, _*_, _≤_, _<_}
 use native.Mathlib.Nat.{mul-assoc, mul-left-comm, one-mul, mul-pos, suc-ne-zero}
 use native.Mathlib.Omega.{arith}
 use lib.ListN.{length}
@@ -142,7 +141,11 @@ module _ {W : Type 0} (eq : Discrete W) where
         split x N (mask u y h) (λ z. mask-other u y h x n' ∙ c (count-other x y N n ∙ z)) ∙ simp (big-except, mask-other, n') in
         simp (different-cons, big-cons, except-other, n, big-except, ih, mask-comm u x y h) (left-comm _ _ _))
 
-  -- multiplicities: one more x
+  pub factorials-nil : factorials eq [] ≡ 1
+  unfolding factorials different prod
+  factorials-nil = refl
+
+  -- one more x: its multiplicity is the factor that comes
   pub factorials-cons : (x : W) (L : List W) → factorials eq (x ∷ L) ≡ suc (count eq x L) * factorials eq L
   unfolding factorials
   factorials-cons x L = rw (
@@ -188,10 +191,6 @@ module _ {W : Type 0} (eq : Discrete W) where
   different-there w (x ∷ L) m z = by-cases (eq w x)
       (λ e. suc-ne-zero _ (sym (count-same w x L e) ∙ z))
       (λ n. ⊎-elim n (λ k. different-there w L (except-mem w x (different eq L) k .0) (sym (count-other w x L n) ∙ z)) (List·Memᴰ·cases-cons (rw different-cons at m)))
-
-  pub factorials-nil : factorials eq [] ≡ 1
-  unfolding factorials different prod
-  factorials-nil = refl
 
   pub factorials-positive : (L : List W) → 0 < factorials eq L
   factorials-positive [] = rw factorials-nil (omega arith)

@@ -69,40 +69,6 @@ module _ {W : Type 0} where
   nil-perm (ptrans p q) h = nil-perm q (nil-perm p h)
 
 module _ {W : Type 0} (eq : Discrete W) where
-  -- each placement has n places, and its weights are those of L
-  placements-sound : (n : ℕ) (L : List W) (π : List (Option W)) → List·Memᴰ π (placements eq n L) → (length π ≡ n) × List·Permᴰ (weights π) L
-  unfolding placements weights
-  placements-sound zero [] π m = rw (List·Memᴰ·eq-of-singleton m) (refl, pnil)
-  placements-sound zero (w ∷ L) π m = absurd (List·Memᴰ·not-nil m)
-  placements-sound (suc n) L π m = ⊎-elim
-      (λ k. let r = Memᴰ·of-map _ (placements eq n L) k in
-      let s = placements-sound n L (r .0) (r .1) in
-      rw (← r .2) (ap suc (s .0), s .1))
-      (λ k. let t = flatMap-inv _ (different eq L) k in
-      let r = Memᴰ·of-map _ (placements eq n (without eq (t .0) L)) (t .2) in
-      let s = placements-sound n (without eq (t .0) L) (r .0) (r .1) in
-      rw (← r .2) (ap suc (s .0), ptrans (pcons refl (s .1)) (without-perm eq (t .0) L (different-there eq (t .0) L (t .1)))))
-      (List·Memᴰ·append-cases (map (λ π. none ∷ π) (placements eq n L)) m)
-
-  -- and each such list is a placement
-  placements-complete : (n : ℕ) (L : List W) (π : List (Option W)) → length π ≡ n → List·Permᴰ (weights π) L → List·Memᴰ π (placements eq n L)
-  unfolding placements weights
-  placements-complete zero L [] e p = rw (nil-perm p refl) (mhead refl)
-  placements-complete zero L (x ∷ π) e p = absurd (suc-ne-zero _ e)
-  placements-complete (suc n) L [] e p = absurd (suc-ne-zero _ (sym e))
-  placements-complete (suc n) L (none ∷ π) e p = Memᴰ·append-left _ (Memᴰ·map (λ π. none ∷ π) (placements-complete n L π (suc-inj e) p))
-  placements-complete (suc n) L (some w ∷ π) e p = Memᴰ·append-right (map (λ π. none ∷ π) (placements eq n L))
-      (flatMap-in (λ w. map (λ π. some w ∷ π) (placements eq n (without eq w L)))
-      (different-in eq w L (λ z. suc-ne-zero _ (sym (count-same eq w w (weights π) refl) ∙ count-perm eq w p ∙ z)))
-      (Memᴰ·map (λ π. some w ∷ π) (placements-complete n (without eq w L) π (suc-inj e) (rw (without-same eq w w (weights π) refl) at (without-cong eq w p)))))
-
-  -- the list has the placements and nothing else
-  pub exactly : (n : ℕ) (L : List W) (π : List (Option W)) → List·Memᴰ π (placements eq n L) ↔ Placement n L π
-  exactly n L π = (
-    λ m. let r = placements-sound n L π m in record { positions = r .0; used-up = r .1 },
-    λ q. placements-complete n L π (q .positions) (q .used-up),
-  )
-
   -- no placement is there twice
   pub once : (n : ℕ) (L : List W) → List·Nodup (placements eq n L)
   unfolding placements
@@ -119,4 +85,38 @@ module _ {W : Type 0} (eq : Discrete W) where
         let t = flatMap-inv _ (different eq L) m' in
         let s = Memᴰ·of-map _ (placements eq n (without eq (t .0) L)) (t .2) in
         Option·none-ne-some (t .0) (head-eq-of-cons-eq (r .2 ∙ sym (s .2))))),
+  )
+
+  -- each list that is there is a placement
+  placements-sound : (n : ℕ) (L : List W) (π : List (Option W)) → List·Memᴰ π (placements eq n L) → (length π ≡ n) × List·Permᴰ (weights π) L
+  unfolding placements weights
+  placements-sound zero [] π m = rw (List·Memᴰ·eq-of-singleton m) (refl, pnil)
+  placements-sound zero (w ∷ L) π m = absurd (List·Memᴰ·not-nil m)
+  placements-sound (suc n) L π m = ⊎-elim
+      (λ k. let r = Memᴰ·of-map _ (placements eq n L) k in
+      let s = placements-sound n L (r .0) (r .1) in
+      rw (← r .2) (ap suc (s .0), s .1))
+      (λ k. let t = flatMap-inv _ (different eq L) k in
+      let r = Memᴰ·of-map _ (placements eq n (without eq (t .0) L)) (t .2) in
+      let s = placements-sound n (without eq (t .0) L) (r .0) (r .1) in
+      rw (← r .2) (ap suc (s .0), ptrans (pcons refl (s .1)) (without-perm eq (t .0) L (different-there eq (t .0) L (t .1)))))
+      (List·Memᴰ·append-cases (map (λ π. none ∷ π) (placements eq n L)) m)
+
+  -- and each placement is there
+  placements-complete : (n : ℕ) (L : List W) (π : List (Option W)) → length π ≡ n → List·Permᴰ (weights π) L → List·Memᴰ π (placements eq n L)
+  unfolding placements weights
+  placements-complete zero L [] e p = rw (nil-perm p refl) (mhead refl)
+  placements-complete zero L (x ∷ π) e p = absurd (suc-ne-zero _ e)
+  placements-complete (suc n) L [] e p = absurd (suc-ne-zero _ (sym e))
+  placements-complete (suc n) L (none ∷ π) e p = Memᴰ·append-left _ (Memᴰ·map (λ π. none ∷ π) (placements-complete n L π (suc-inj e) p))
+  placements-complete (suc n) L (some w ∷ π) e p = Memᴰ·append-right (map (λ π. none ∷ π) (placements eq n L))
+      (flatMap-in (λ w. map (λ π. some w ∷ π) (placements eq n (without eq w L)))
+      (different-in eq w L (λ z. suc-ne-zero _ (sym (count-same eq w w (weights π) refl) ∙ count-perm eq w p ∙ z)))
+      (Memᴰ·map (λ π. some w ∷ π) (placements-complete n (without eq w L) π (suc-inj e) (rw (without-same eq w w (weights π) refl) at (without-cong eq w p)))))
+
+  -- the list has exactly the placements
+  pub exactly : (n : ℕ) (L : List W) (π : List (Option W)) → List·Memᴰ π (placements eq n L) ↔ Placement n L π
+  exactly n L π = (
+    λ m. let r = placements-sound n L π m in record { positions = r .0; used-up = r .1 },
+    λ q. placements-complete n L π (q .positions) (q .used-up),
   )
