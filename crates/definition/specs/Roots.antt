@@ -68,9 +68,9 @@ module _ {A : Type 0} {o : Ops A} (l : Laws o) where
   ]
 
   -- Newton's identity at any place
-  pub newton-at : (rs : List A) (k : ℕ) → 1 ≤ k → power-sum o rs k ≡ newton o (product o rs) (power-sum o rs) k
-  newton-at rs zero h = absurd (omega arith)
-  newton-at rs (suc j) h = newton-next l rs j ∙ ap₂ (λ x y. ⊖ (nat o (suc j) ⊗ x ⊕ y)) (sym (nth-product rs (suc j) h))
+  pub newton-for-roots : (rs : List A) (k : ℕ) → 1 ≤ k → power-sum o rs k ≡ newton o (product o rs) (power-sum o rs) k
+  newton-for-roots rs zero h = absurd (omega arith)
+  newton-for-roots rs (suc j) h = newton-next l rs j ∙ ap₂ (λ x y. ⊖ (nat o (suc j) ⊗ x ⊕ y)) (sym (nth-product rs (suc j) h))
       (sum-cong o j _ _ (λ i b. ap₂ _⊗_ (sym (nth-product rs (suc i) (omega arith))) (ap (power-sum o rs) (omega arith))) ∙ sym (sum₁-is o j _) ∙ ap (λ n. sum₁ o n (λ i. nth o (product o rs) i ⊗ power-sum o rs (suc j - i))) (omega arith))
 
   -- past the degree the sum ends with the coefficients
@@ -89,5 +89,12 @@ module _ {A : Type 0} {o : Ops A} (l : Laws o) where
       → ((k : ℕ) → 1 ≤ k → k ≤ m → s k ≡ newton o c s k) → Rule₁ o c m s
   two-cases c m s z h = record { zeroth = z; low = λ k a b d. h k a d; high = λ k a d. h k (omega arith) d ∙ past-degree c k (λ i. s (k - i)) a }
 
+  -- and the two come to the one equation
+  pub one-equation : (c : List A) (m : ℕ) (s : ℕ → A) → Rule₁ o c m s → (k : ℕ) → 1 ≤ k → k ≤ m → s k ≡ newton o c s k
+  one-equation c m s r k a b = elim (decLt (length c) k) [
+    | yes past ↦ r .high k past b ∙ sym (past-degree c k (λ i. s (k - i)) past)
+    | no low ↦ r .low k a (omega arith) b
+  ]
+
   pub sums-of-roots : (rs : List A) (m : ℕ) → Rule₁ o (product o rs) m (power-sum o rs)
-  sums-of-roots rs m = two-cases _ m _ (power-sum-zero o rs ∙ ap (nat o) (sym (length-product rs))) (λ k a b. newton-at rs k a)
+  sums-of-roots rs m = two-cases _ m _ (power-sum-zero o rs ∙ ap (nat o) (sym (length-product rs))) (λ k a b. newton-for-roots rs k a)

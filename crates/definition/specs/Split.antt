@@ -22,7 +22,7 @@ use Rattle.placements.specs.Placements.{placements, value}
 use Rattle.placements.specs.Number.{factorial, placed}
 use Rattle.definition.specs.Definition.{Resolvent}
 use Rattle.definition.specs.Rules.{T, T-nil, T-cons, T-meets}
-use Rattle.definition.specs.Roots.{product, values, length-values, length-product, newton-at, sums-of-roots}
+use Rattle.definition.specs.Roots.{product, values, length-values, length-product, newton-for-roots, sums-of-roots}
 
 module _ {A : Type 0} {o : Ops A} (l : Laws o) where
   open Ops o using (zero as 𝟘, one as 𝟙, add as _⊕_, mul as _⊗_, neg as ⊖_)
@@ -37,21 +37,21 @@ module _ {A : Type 0} {o : Ops A} (l : Laws o) where
       at zero = simp (monomial-here, pow-zero)
       at (suc j) = simp (monomial-past, pow-suc) (sym (R.zero-mul (l .semi) _))
 
-  layings-at : (rs : List A) (n : ℕ) (L : List ℤ) → length L ≤ n → (k : ℕ) → T o (power-sum o rs) L k ≡ layings o (int o) rs L (λ v. pow o v k)
+  layings-up-to : (rs : List A) (n : ℕ) (L : List ℤ) → length L ≤ n → (k : ℕ) → T o (power-sum o rs) L k ≡ layings o (int o) rs L (λ v. pow o v k)
   unfolding expand
-  layings-at rs zero [] h k = none-at rs k
-  layings-at rs (suc n) [] h k = none-at rs k
-  layings-at rs zero (e ∷ M) h k = absurd (omega arith)
-  layings-at rs (suc n) (e ∷ M) h k =
+  layings-up-to rs zero [] h k = none-at rs k
+  layings-up-to rs (suc n) [] h k = none-at rs k
+  layings-up-to rs zero (e ∷ M) h k = absurd (omega arith)
+  layings-up-to rs (suc n) (e ∷ M) h k =
       T-cons o (power-sum o rs) e M k
       ∙ sym (collide-powers l _+ℤ_ (int o) (int-add l) rs e M k
       ∙ ap₂ (λ x y. x ⊕ ⊖ y)
-      (ap (sum o (suc k)) (fun-ext (λ i. ap (λ x. nat o (choose k i) ⊗ (pow o (int o e) i ⊗ power-sum o rs i ⊗ x)) (sym (layings-at rs n M (omega arith) (k - i))))))
-      (collisions-places (l .semi) e M _ ∙ sum-cong o (length M) _ _ (λ j b. sym (layings-at rs n (with-sum M j e) (omega (arith, length-with-sum M j e)) k))))
+      (ap (sum o (suc k)) (fun-ext (λ i. ap (λ x. nat o (choose k i) ⊗ (pow o (int o e) i ⊗ power-sum o rs i ⊗ x)) (sym (layings-up-to rs n M (omega arith) (k - i))))))
+      (collisions-places (l .semi) e M _ ∙ sum-cong o (length M) _ _ (λ j b. sym (layings-up-to rs n (with-sum M j e) (omega (arith, length-with-sum M j e)) k))))
 
   -- T_k is the sum of the k-th powers over all layings of the weights, each on a root of its own
   pub T-layings : (rs : List A) (L : List ℤ) (k : ℕ) → T o (power-sum o rs) L k ≡ layings o (int o) rs L (λ v. pow o v k)
-  T-layings rs L k = layings-at rs (length L) L (omega arith) k
+  T-layings rs L k = layings-up-to rs (length L) L (omega arith) k
 
   -- and the product of m! times the sum over all placements
   T-placements : (rs : List A) (L : List ℤ) (k : ℕ) → nat o (factorials ℤ-eq L) ⊗ power-sum o (values o rs L) k ≡ T o (power-sum o rs) L k
@@ -72,6 +72,6 @@ module _ {A : Type 0} {o : Ops A} (l : Laws o) where
     rule₁ = sums-of-roots l rs _;
     rule₂ = T-meets o (power-sum o rs);
     rule₃ = λ k h. T-placements rs L k;
-    rule₄ = λ k a h. rule-4 _ _ _ _ (newton-at l (values o rs L) k a);
+    rule₄ = λ k a h. rule-4 _ _ _ _ (newton-for-roots l (values o rs L) k a);
     size = length-product l (values o rs L) ∙ length-values o rs L ∙ ap (λ n. placed n L) (sym (length-product l rs));
   }
