@@ -34,18 +34,18 @@ marked c = mark-got (mark (behind (start (c .before .before .before .before .bef
 abbrev simple : (c : tie.After-simple) → Line mark (behind (start (c .before .before .before .before .before)))
 simple c = record { value = c .simple .given .0 .0; place = c .simple .given .0 .1 .0 .at; found = marked c; fits = within marks _ _ _ (marked c) }
 
-coeffs-there : (c : tie.After-n) → Filled (coeffs-line 1024 (behind (simple (c .before .before .before .before .before .before .before .before .before)))) (c .before .before .before .before .read-numbers-line .result) (c .before .before .before .before .read-numbers-line .last .1 .1 .0)
+coeffs-there : (c : tie.After-count) → Filled (coeffs-line 1024 (behind (simple (c .before .before .before .before .before .before .before .before .before)))) (c .before .before .before .before .read-numbers-line .result) (c .before .before .before .before .read-numbers-line .last .1 .1 .0)
 unfolding bytes
 coeffs-there c = parses.coeffs-filled 1024 _ (behind (simple (c .before .before .before .before .before .before .before .before .before))) _ _ (c .before .before .before .before .before .before .before .before .before .before .before .before .before .before .before .before .before .before .before .pre) (c .before .before .before .before .read-numbers-line .ensures)
 
-coeffs-found : (c : tie.After-n) → coeffs-line 1024 (behind (simple (c .before .before .before .before .before .before .before .before .before))) ≡ got (take (c .n .given .0 .0) (c .before .before .before .before .read-numbers-line .last .1 .1 .0)) (c .n .given .0 .1 .0 .at)
-coeffs-found c = filled-got (coeffs-line 1024 (behind (simple (c .before .before .before .before .before .before .before .before .before)))) _ _ _ _ (coeffs-there c) (c .n .given .1)
+coeffs-found : (c : tie.After-count) → coeffs-line 1024 (behind (simple (c .before .before .before .before .before .before .before .before .before))) ≡ got (take (c .count .given .0 .0) (c .before .before .before .before .read-numbers-line .last .1 .1 .0)) (c .count .given .0 .1 .0 .at)
+coeffs-found c = filled-got (coeffs-line 1024 (behind (simple (c .before .before .before .before .before .before .before .before .before)))) _ _ _ _ (coeffs-there c) (c .count .given .1)
 
-abbrev coeffs : (c : tie.After-n) → Line (coeffs-line 1024) (behind (simple (c .before .before .before .before .before .before .before .before .before)))
-coeffs c = record { value = take (c .n .given .0 .0) (c .before .before .before .before .read-numbers-line .last .1 .1 .0); place = c .n .given .0 .1 .0 .at; found = coeffs-found c; fits = within (coeffs-lines 1024) _ _ _ (coeffs-found c) }
+abbrev coeffs : (c : tie.After-count) → Line (coeffs-line 1024) (behind (simple (c .before .before .before .before .before .before .before .before .before)))
+coeffs c = record { value = take (c .count .given .0 .0) (c .before .before .before .before .read-numbers-line .last .1 .1 .0); place = c .count .given .0 .1 .0 .at; found = coeffs-found c; fits = within (coeffs-lines 1024) _ _ _ (coeffs-found c) }
 
-counted : (c : tie.After-n) → length (take (c .n .given .0 .0) (c .before .before .before .before .read-numbers-line .last .1 .1 .0)) ≡ c .n .given .0 .0
-counted c = filled-count (coeffs-line 1024 (behind (simple (c .before .before .before .before .before .before .before .before .before)))) _ _ _ _ (coeffs-there c) (c .n .given .1)
+counted : (c : tie.After-count) → length (take (c .count .given .0 .0) (c .before .before .before .before .read-numbers-line .last .1 .1 .0)) ≡ c .count .given .0 .0
+counted c = filled-count (coeffs-line 1024 (behind (simple (c .before .before .before .before .before .before .before .before .before)))) _ _ _ _ (coeffs-there c) (c .count .given .1)
 
 -- src/lib.rt:179:40
 read-head-requires : tie.Need-read-head-requires
@@ -122,8 +122,8 @@ read-numbers-line-requires : tie.Need-read-numbers-line-requires
 read-numbers-line-requires c κs = search needs
 
 -- src/lib.rt:189:20
-enum-known-n : tie.Need-enum-known-n
-enum-known-n c = search needs
+enum-known-count : tie.Need-enum-known-count
+enum-known-count c = search needs
 
 -- src/lib.rt:190:9
 enum-told-3 : tie.Need-enum-told-3
@@ -202,7 +202,7 @@ parse-answer-spec =
     part-second-end
     slice-aggregate-read-numbers-line
     read-numbers-line-requires
-    enum-known-n
+    enum-known-count
     enum-told-3
     refused-answer-requires-3
     same-length
