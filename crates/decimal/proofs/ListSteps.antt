@@ -1,4 +1,4 @@
--- The line scanner's steps as the code takes them. `so` is the loop's invariant; the part that is handed on is `rest`.
+-- The list scanner's steps as the code takes them: an item, the byte behind it, and on or out. `so` is the loop's invariant; the part that is handed on is `rest`.
 use Prim.Native.Nat.{ℕ, suc, _+_, _-_, _≤_, _<_}
 use mathlib.Core.Path.{_≡_, refl, sym, _∙_, ap}
 use mathlib.Core.Bool.{cond}
@@ -16,6 +16,7 @@ use Rattle.decimal.specs.declared.Number.the-variants.{Bad, Value}
 use Rattle.decimal.specs.Scan.{Filled, Got, bad, got, more-items, number, read-list, read-number}
 use Rattle.decimal.specs.ListLaws.{Scans, byte-within, scan-within}
 
+-- `&t[at..]`, as the borrow checker has it
 abbrev pub rest : List ℕ → ℕ → List ℕ
 rest t at = take (length t - at) (drop at t)
 

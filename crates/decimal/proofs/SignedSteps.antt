@@ -1,4 +1,4 @@
--- The signed-number reader's steps as the code takes them.
+-- The steps of the reader of signed numbers as the code takes them: by its first byte, and by what the number reader answered.
 use Prim.Native.Nat.{ℕ, suc, _+_, _-_, _≤_, _<_}
 use mathlib.Core.Path.{_≡_, refl, sym, _∙_, ap}
 use mathlib.Core.List.{List}
@@ -86,7 +86,7 @@ module _ (t : List ℕ) (b : ℕ) (w : b ≡ getD t 0 0) (p : b ≡ 45 → ⊥) 
     unfolding signed-number
     plus-good z l q = rw (ne-eqb _ _ not-m, ← e, f, le-ltb _ _ l, q, plus-is v l)
 
--- ---- what the signed-number reader answered at a part
+-- ---- what that reader answered at a part
 answer-got : (g : Got ℤ) (z : ℤ) (c : Cursor) → as-signed g ≡ Of z c → g ≡ got z (c .at)
 answer-got (got y i) z c h =
     let k : record { at = i } ≡ c = cc in

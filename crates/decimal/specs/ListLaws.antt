@@ -14,6 +14,7 @@ use Rattle.decimal.specs.Spelling.{Each, Word, after, decimal, line}
 use Rattle.decimal.specs.Scan.{Got, as-got, bad, digit-of, got, more-items, number, read-list, read-number}
 use Rattle.decimal.specs.NumberLaws.{Ends, Spelt, reads, spelt}
 
+-- t is l and more behind it, and i is the place between them
 pub record Front (l t : List ℕ) (i : ℕ) : Type 0 where
   pub behind : List ℕ
   pub whole : t ≡ l ++ behind

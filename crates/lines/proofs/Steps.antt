@@ -1,4 +1,4 @@
--- The steps of the reader as the code takes them.
+-- The steps of the readers as the code takes them: the key byte by byte, then what the part behind it holds.
 use Prim.Native.Nat.{ℕ, _+_, _-_, _≤_, _<_}
 use mathlib.Core.Path.{_≡_, refl, sym, _∙_, ap}
 use mathlib.Core.Bool.{Bool, true, false}
@@ -19,6 +19,7 @@ use Rattle.decimal.proofs.ListSteps.{rest, rest-is}
 use Rattle.lines.specs.Scan.{as-number, keyed, one-line, starts}
 use Rattle.lines.specs.Laws.{lines, starts-sound, within}
 
+-- ---- a key
 module _ (key t : List ℕ) (i : ℕ) (so : starts key t ≡ starts (drop i key) (drop i t)) where
   pub key-end : length key ≤ i → true ≡ starts key t
   key-end h = rw (so, drop-of-length-le key h)
