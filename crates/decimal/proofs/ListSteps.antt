@@ -1,12 +1,12 @@
--- The line scanner's steps as the code takes them. `so` is the loop's invariant; the part that is handed on is `rest`.
+-- The list scanner's steps as the code takes them: an item, the byte behind it, and on or out. `so` is the loop's invariant; the part that is handed on is `rest`.
 use Prim.Native.Nat.{ℕ, suc, _+_, _-_, _≤_, _<_}
-use mathlib.Core.Path.{_≡_, refl}
+use mathlib.Core.Path.{_≡_, refl, sym, _∙_, ap}
 use mathlib.Core.Bool.{cond}
 use mathlib.Core.List.{List, [], _∷_, _++_}
 use native.Mathlib.Omega.{arith}
 use native.Mathlib.Numerals.{add-one}
 use lib.Dec.{eqb}
-use lib.ListN.{length, getD, take, drop, set, length-append, length-drop, List·getD-eq-default}
+use lib.ListN.{length, getD, take, drop, set, length-append, length-drop}
 use lib.Seq.{take-all, length-take-le, take-suc-set, drop-drop}
 use borrow.Author.Tests.{ne-eqb}
 use Rattle.decimal.specs.declared.Cursor.{Cursor}
@@ -14,7 +14,9 @@ use Rattle.decimal.specs.declared.Listed.the-variants.{None, Of}
 use Rattle.decimal.specs.declared.Number.{Number}
 use Rattle.decimal.specs.declared.Number.the-variants.{Bad, Value}
 use Rattle.decimal.specs.Scan.{Filled, Got, bad, got, more-items, number, read-list, read-number}
+use Rattle.decimal.specs.ListLaws.{Scans, byte-within, scan-within}
 
+-- `&t[at..]`, as the borrow checker has it
 abbrev pub rest : List ℕ → ℕ → List ℕ
 rest t at = take (length t - at) (drop at t)
 
@@ -44,25 +46,30 @@ module _ {A : Type 0} (item : List ℕ → Got A) (cap : ℕ) (t : List ℕ) (ou
     pub no-item : item (drop at t) ≡ bad → Filled (read-list item cap t) None out
     no-item e = rw (turned, e) refl
 
-    module _ (v : A) (k : ℕ) (e : item (drop at t) ≡ got v k) where
+    module _ (v : A) (k : ℕ) (e : item (drop at t) ≡ got v k) (b : ℕ) (w : b ≡ getD (rest t at) k 0) where
       taken : read-list item cap t ≡
-          cond (eqb (getD (rest t at) k 0) 10) (got (take n out ++ (v ∷ [])) (at + (k + 1)))
-          (cond (eqb (getD (rest t at) k 0) 44) (more-items item (cap - (n + 1)) (drop (k + 1) (drop at t)) (take n out ++ (v ∷ [])) (at + (k + 1))) bad)
-      taken = rw (turned, e, rest-is)
+          cond (eqb b 10) (got (take n out ++ (v ∷ [])) (at + (k + 1)))
+          (cond (eqb b 44) (more-items item (cap - (n + 1)) (drop (k + 1) (drop at t)) (take n out ++ (v ∷ [])) (at + (k + 1))) bad)
+      taken = rw (turned, e, w, rest-is)
 
       stored : take (n + 1) (set out n v) ≡ take n out ++ (v ∷ [])
       stored = rw add-one (take-suc-set out n v h)
 
-      pub cut : length (rest t at) ≤ k → Filled (read-list item cap t) None out
-      cut p = rw (taken, List·getD-eq-default (rest t at) 0 p) refl
-
-      pub done : getD (rest t at) k 0 ≡ 10 → Filled (read-list item cap t) (Of (n + 1) (record { at = at + (k + 1) })) (set out n v)
+      pub done : b ≡ 10 → Filled (read-list item cap t) (Of (n + 1) (record { at = at + (k + 1) })) (set out n v)
       done p =
           let l : length (take n out ++ (v ∷ [])) ≡ n + 1 = rw (length-append, length-take-le n out (omega arith)) in
           rw (taken, p, l) (refl, stored)
 
-      pub other : (getD (rest t at) k 0 ≡ 10 → ⊥) → (getD (rest t at) k 0 ≡ 44 → ⊥) → Filled (read-list item cap t) None (set out n v)
+      pub other : (b ≡ 10 → ⊥) → (b ≡ 44 → ⊥) → Filled (read-list item cap t) None (set out n v)
       other p q = rw (taken, ne-eqb _ _ p, ne-eqb _ _ q) refl
 
-      pub more : (getD (rest t at) k 0 ≡ 10 → ⊥) → getD (rest t at) k 0 ≡ 44 → read-list item cap t ≡ more-items item (cap - (n + 1)) (drop (at + (k + 1)) t) (take (n + 1) (set out n v)) (at + (k + 1))
+      pub more : (b ≡ 10 → ⊥) → b ≡ 44 → read-list item cap t ≡ more-items item (cap - (n + 1)) (drop (at + (k + 1)) t) (take (n + 1) (set out n v)) (at + (k + 1))
       more p q = rw (taken, ne-eqb _ _ p, q, drop-drop, stored)
+
+-- the place behind an item, and behind the comma that follows it, is within the text
+module _ {A : Type 0} {Ok : A → Type 0} {spell : A → List ℕ} {item : List ℕ → Got A} (R : Scans Ok spell item) (t : List ℕ) (at : ℕ) (f : at ≤ length t) (v : A) (k : ℕ) (e : item (drop at t) ≡ got v k) where
+  pub item-fits : at + k ≤ length t
+  item-fits = omega (arith, scan-within R (drop at t) v k e, length-drop at t)
+
+  pub comma-fits : (b : ℕ) → b ≡ getD (rest t at) k 0 → b ≡ 44 → at + (k + 1) ≤ length t
+  comma-fits b w p = omega (arith, byte-within (rest t at) k 44 (sym w ∙ p) (omega arith), ap length (rest-is t at), length-drop at t)

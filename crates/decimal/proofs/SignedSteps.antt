@@ -1,7 +1,7 @@
--- The signed-number reader's steps as the code takes them.
+-- The steps of the reader of signed numbers as the code takes them: by its first byte, and by what the number reader answered.
 use Prim.Native.Nat.{ℕ, suc, _+_, _-_, _≤_, _<_}
 use mathlib.Core.Path.{_≡_, refl, sym, _∙_, ap}
-use mathlib.Core.List.{List, [], _∷_}
+use mathlib.Core.List.{List}
 use native.Mathlib.Omega.{arith}
 use lib.IntN.{ℤ, pos, negsuc, negℤ, _-ℤ_, +ℤ-idl}
 use lib.ListN.{length, getD, drop, length-drop}
@@ -17,6 +17,7 @@ use Rattle.decimal.specs.declared.Signed.the-variants.{None, Of}
 use Rattle.decimal.specs.Spelling.{Small}
 use Rattle.decimal.specs.Scan.{Got, as-signed, bad, got, read-number, signed-number}
 use Rattle.decimal.specs.NumberLaws.{place-within}
+use Rattle.decimal.specs.ListLaws.{byte-within}
 use Rattle.decimal.specs.SignedLaws.{signed-numbers}
 use Rattle.decimal.proofs.ListSteps.{rest, rest-is}
 
@@ -37,12 +38,14 @@ pub minus-is : (v : ℕ) → v ≤ 999 → toZ w32 (ofZ w32 (pos 0 -ℤ toZ w32 
 minus-is v h = rw (minus-eq v h) (toZ-ofZ w32 (negℤ (pos v)) (neg-fits v h))
 
 -- ---- the reader
-pub empty : (t : List ℕ) → length t ≡ 0 → None ≡ as-signed (signed-number t)
-unfolding signed-number
-empty [] h = refl
-empty (b ∷ t) h = absurd (omega arith)
+module _ (t : List ℕ) (b : ℕ) (w : b ≡ getD t 0 0) (p : b ≡ 45) where
+  pub sign-there : 1 ≤ length t
+  sign-there = byte-within t 0 45 (sym w ∙ p) (omega arith)
 
-module _ (t : List ℕ) (r : Number) (m : getD t 0 0 ≡ 45) (e : r ≡ read-number (rest t 1)) where
+module _ (t : List ℕ) (b : ℕ) (w : b ≡ getD t 0 0) (p : b ≡ 45) (r : Number) (e : r ≡ read-number (rest t 1)) where
+  m : getD t 0 0 ≡ 45
+  m = sym w ∙ p
+
   read : read-number (drop 1 t) ≡ r
   read = rw (← rest-is t 1) (sym e)
 
@@ -53,34 +56,37 @@ module _ (t : List ℕ) (r : Number) (m : getD t 0 0 ≡ 45) (e : r ≡ read-num
   module _ (v : ℕ) (c : Cursor) (f : r ≡ Value v c) where
     pub minus-zero : v ≡ 0 → None ≡ as-signed (signed-number t)
     unfolding signed-number
-    minus-zero p = rw (m, read, f, p)
+    minus-zero z = rw (m, read, f, z)
 
     pub minus-large : (v ≡ 0 → ⊥) → 999 < v → None ≡ as-signed (signed-number t)
     unfolding signed-number
-    minus-large n p = rw (m, read, f, ne-eqb _ _ n, lt-ltb _ _ p)
+    minus-large n z = rw (m, read, f, ne-eqb _ _ n, lt-ltb _ _ z)
 
     pub minus-good : (z : ℤ) → (v ≡ 0 → ⊥) → v ≤ 999 → z ≡ negℤ (pos v) → Of (toZ w32 (ofZ w32 z)) (record { at = c .at + 1 }) ≡ as-signed (signed-number t)
     unfolding signed-number
-    minus-good z n p q = rw (m, read, f, ne-eqb _ _ n, le-ltb _ _ p, q, toZ-ofZ w32 (negℤ (pos v)) (neg-fits v p))
+    minus-good z n l q = rw (m, read, f, ne-eqb _ _ n, le-ltb _ _ l, q, toZ-ofZ w32 (negℤ (pos v)) (neg-fits v l))
 
-    pub room : (length t ≡ 0 → ⊥) → c .at + 1 ≤ length t
-    room n = omega (arith, place-within (drop 1 t) v c (read ∙ f), length-drop 1 t)
+    pub room : c .at + 1 ≤ length t
+    room = omega (arith, place-within (drop 1 t) v c (read ∙ f), length-drop 1 t, sign-there t b w p)
 
-module _ (t : List ℕ) (r : Number) (m : getD t 0 0 ≡ 45 → ⊥) (e : r ≡ read-number t) where
+module _ (t : List ℕ) (b : ℕ) (w : b ≡ getD t 0 0) (p : b ≡ 45 → ⊥) (r : Number) (e : r ≡ read-number t) where
+  not-m : getD t 0 0 ≡ 45 → ⊥
+  not-m q = p (w ∙ q)
+
   pub plus-bad : r ≡ Bad → None ≡ as-signed (signed-number t)
   unfolding signed-number
-  plus-bad f = rw (ne-eqb _ _ m, ← e, f)
+  plus-bad f = rw (ne-eqb _ _ not-m, ← e, f)
 
   module _ (v : ℕ) (c : Cursor) (f : r ≡ Value v c) where
     pub plus-large : 999 < v → None ≡ as-signed (signed-number t)
     unfolding signed-number
-    plus-large p = rw (ne-eqb _ _ m, ← e, f, lt-ltb _ _ p)
+    plus-large z = rw (ne-eqb _ _ not-m, ← e, f, lt-ltb _ _ z)
 
     pub plus-good : (z : ℤ) → v ≤ 999 → z ≡ pos v → Of (toZ w32 (ofZ w32 z)) c ≡ as-signed (signed-number t)
     unfolding signed-number
-    plus-good z p q = rw (ne-eqb _ _ m, ← e, f, le-ltb _ _ p, q, plus-is v p)
+    plus-good z l q = rw (ne-eqb _ _ not-m, ← e, f, le-ltb _ _ l, q, plus-is v l)
 
--- ---- what the signed-number reader answered at a part
+-- ---- what that reader answered at a part
 answer-got : (g : Got ℤ) (z : ℤ) (c : Cursor) → as-signed g ≡ Of z c → g ≡ got z (c .at)
 answer-got (got y i) z c h =
     let k : record { at = i } ≡ c = cc in

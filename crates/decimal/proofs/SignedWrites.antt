@@ -1,4 +1,4 @@
--- The spelling of a signed-number, as the code writes it, and the check of all signed-numbers.
+-- The spelling of a signed number, as the code writes it, and the test of all numbers of a list.
 use Prim.Native.Nat.{ℕ, zero, suc, _+_, _≤_, _<_}
 use mathlib.Core.Path.{_≡_, refl, sym, _∙_}
 use mathlib.Core.Bool.{Bool, true, false, cond}
@@ -50,7 +50,7 @@ all-at P [] i d a h = absurd (omega arith)
 all-at P (x ∷ xs) zero d a h = a .0
 all-at P (x ∷ xs) (suc i) d a h = all-at P xs i d (a .1) (omega arith)
 
--- an item of a list of signed-numbers, by its bits
+-- an item of a list, by its bits
 abbrev pub bits-at : List ℤ → ℕ → ℤ
 bits-at xs i = toZ w32 (ofZ w32 (getD xs i (pos 0)))
 

@@ -14,6 +14,7 @@ use Rattle.decimal.specs.Spelling.{Each, Word, after, decimal, line}
 use Rattle.decimal.specs.Scan.{Got, as-got, bad, digit-of, got, more-items, number, read-list, read-number}
 use Rattle.decimal.specs.NumberLaws.{Ends, Spelt, reads, spelt}
 
+-- t is l and more behind it, and i is the place between them
 pub record Front (l t : List ℕ) (i : ℕ) : Type 0 where
   pub behind : List ℕ
   pub whole : t ≡ l ++ behind
@@ -23,6 +24,21 @@ pub record Front (l t : List ℕ) (i : ℕ) : Type 0 where
 pub record Scans {A : Type 0} (Ok : A → Type 0) (spell : A → List ℕ) (item : List ℕ → Got A) : Type 0 where
   pub complete : (v : A) (t : List ℕ) → Ok v → Ends t → item (spell v ++ t) ≡ got v (length (spell v))
   pub sound : (t : List ℕ) (v : A) (i : ℕ) → item t ≡ got v i → Front (spell v) t i × Ok v
+
+pub front-within : (l t : List ℕ) (i : ℕ) → Front l t i → i ≤ length t
+front-within l t i f = omega (arith, f .place, ap length (f .whole), length-append l (f .behind))
+
+pub scan-within : {A : Type 0} {Ok : A → Type 0} {spell : A → List ℕ} {item : List ℕ → Got A} → Scans Ok spell item → (t : List ℕ) (v : A) (i : ℕ) → item t ≡ got v i → i ≤ length t
+scan-within R t v i h = front-within _ t i (R .sound t v i h .0)
+
+-- a byte other than 0 is within the text
+pub byte-within : (t : List ℕ) (i b : ℕ) → getD t i 0 ≡ b → 0 < b → i < length t
+byte-within t i b e p = elim (decLt i (length t)) [
+  | yes q ↦ q
+  | no q ↦
+      let z : getD t i 0 ≡ 0 = List·getD-eq-default t 0 (omega arith) in
+      absurd (omega arith)
+]
 
 pub never-got : {A : Type 0} {v : A} {i : ℕ} → _≡_ {A = Got A} bad (got v i) → ⊥
 never-got h = let z : _≡_ {A = ℕ} 0 1 = cc in omega arith
@@ -63,14 +79,10 @@ module _ {A : Type 0} (Ok : A → Type 0) (spell : A → List ℕ) (item : List 
 
   -- the byte behind the item, where it is not 0
   byte-behind : (t : List ℕ) (v : A) (i b : ℕ) → Front (spell v) t i → getD t i 0 ≡ b → 0 < b → t ≡ spell v ++ (b ∷ drop (i + 1) t)
-  byte-behind t v i b f e p = elim (decLt i (length t)) [
-    | yes q ↦
-        let r : f .behind ≡ b ∷ drop (i + 1) t = sym (drop-append-seam (spell v) (f .behind)) ∙ rw (← f .place, ← f .whole, add-one, ← e) (drop-cons t i 0 q) in
-        rw (← r) (f .whole)
-    | no q ↦
-        let z : getD t i 0 ≡ 0 = List·getD-eq-default t 0 (omega arith) in
-        absurd (omega arith)
-  ]
+  byte-behind t v i b f e p =
+      let q : i < length t = byte-within t i b e p in
+      let r : f .behind ≡ b ∷ drop (i + 1) t = sym (drop-append-seam (spell v) (f .behind)) ∙ rw (← f .place, ← f .whole, add-one, ← e) (drop-cons t i 0 q) in
+      rw (← r) (f .whole)
 
   lined-one : (k : ℕ) (t : List ℕ) (acc : List A) (at : ℕ) (v : A) (j : ℕ) → Front (spell v) t j → Ok v → getD t j 0 ≡ 10 → Lined (suc k) t acc at (acc ++ (v ∷ [])) (at + (j + 1))
   unfolding after

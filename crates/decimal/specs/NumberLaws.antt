@@ -12,6 +12,7 @@ use Rattle.decimal.specs.declared.Number.the-variants.{Bad, Value}
 use Rattle.decimal.specs.Spelling.{decimal, digits}
 use Rattle.decimal.specs.Scan.{digit-of, more-digits, read-number, value}
 
+-- ---- the spelling: the fuel does not matter, and a number is its front digits with one behind them
 digits-fuel : (f g n : ℕ) → n < f → n < g → digits f n ≡ digits g n
 unfolding digits
 digits-fuel zero g n p q = absurd (omega arith)

@@ -1,4 +1,4 @@
--- What is read as a signed-number is what is written.
+-- What is read is what is written, for numbers from -999 to 999: a minus sign is no digit, and -0 is no spelling.
 use Prim.Native.Nat.{ℕ, zero, suc, _+_, _≤_}
 use mathlib.Core.Path.{_≡_, refl, ap}
 use mathlib.Core.Bool.{cond}

@@ -3,7 +3,7 @@ ghost use mathlib.Core.Path.{_≡_};
 ghost use Prim.Native.Nat.{_+_, _*_, _≤_};
 ghost use lib.Dec.{leb};
 ghost use lib.IntN.{pos, negℤ, natAbs};
-ghost use lib.ListN.{length};
+ghost use lib.ListN.{length, getD};
 ghost use Rattle.decimal.specs.Spelling.{decimal, signed, line, Small, Each};
 ghost use Rattle.decimal.specs.Scan.{digit-of, read-number, number, signed-number, read-list, as-signed, Filled};
 ghost use Rattle.decimal.specs.Written.{negative, all-small, separator-of, Wrote};
@@ -28,6 +28,16 @@ pub enum Signed {
 pub enum Listed {
     Of(usize, Cursor),
     None,
+}
+
+// The byte at the place. Past the end it is 0, which stands in no record.
+pub fn byte_at(part: &[u8], at: usize) -> u8
+    ensures { λ r. ⌜ r ≡ getD (now (part .entry)) at 0 ⌝ }
+{
+    if part.len() <= at {
+        return 0;
+    }
+    part[at]
 }
 
 // The value of a digit, and 10 for any other byte.
@@ -115,10 +125,7 @@ fn minus(v: u32) -> i32
 pub fn read_signed(part: &[u8]) -> Signed
     ensures { λ r. ⌜ r ≡ as-signed (signed-number (now (part .entry))) ⌝ }
 {
-    if part.len() == 0 {
-        return Signed::None;
-    }
-    if part[0] == 45 {
+    if byte_at(part, 0) == 45 {
         let Number::Value(n, c) = read_u32(&part[1..]) else {
             return Signed::None;
         };
@@ -223,10 +230,7 @@ pub fn read_numbers(part: &[u8], out: &mut [u32]) -> Listed
             return Listed::None;
         };
         let k = c.at;
-        if rest.len() <= k {
-            return Listed::None;
-        }
-        let b = rest[k];
+        let b = byte_at(rest, k);
         out[n] = v;
         n += 1;
         at = at + (k + 1);
@@ -252,10 +256,7 @@ pub fn read_signeds(part: &[u8], out: &mut [i32]) -> Listed
             return Listed::None;
         };
         let k = c.at;
-        if rest.len() <= k {
-            return Listed::None;
-        }
-        let b = rest[k];
+        let b = byte_at(rest, k);
         out[n] = v;
         n += 1;
         at = at + (k + 1);

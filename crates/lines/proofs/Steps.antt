@@ -1,11 +1,11 @@
--- The steps of the reader as the code takes them.
+-- The steps of the readers as the code takes them: the key byte by byte, then what the part behind it holds.
 use Prim.Native.Nat.{ℕ, _+_, _-_, _≤_, _<_}
 use mathlib.Core.Path.{_≡_, refl, sym, _∙_, ap}
 use mathlib.Core.Bool.{Bool, true, false}
 use mathlib.Core.List.{List}
 use native.Mathlib.Omega.{arith}
 use native.Mathlib.Numerals.{add-one}
-use lib.ListN.{length, getD, take, drop, length-append, length-drop, drop-of-length-le, List·getD-eq-default}
+use lib.ListN.{length, getD, take, drop, length-append, length-drop, drop-of-length-le}
 use lib.Seq.{drop-cons}
 use borrow.Author.Tests.{eq-eqb, ne-eqb}
 use Rattle.decimal.specs.declared.Cursor.{Cursor}
@@ -14,11 +14,12 @@ use Rattle.decimal.specs.declared.Listed.the-variants.{None, Of}
 use Rattle.decimal.specs.declared.Number.{Number}
 use Rattle.decimal.specs.declared.Number.the-variants.{Bad, Value}
 use Rattle.decimal.specs.Scan.{Filled, Got, and-then, bad, got, number, read-list, read-number}
-use Rattle.decimal.specs.ListLaws.{Scans}
+use Rattle.decimal.specs.ListLaws.{Scans, byte-within}
 use Rattle.decimal.proofs.ListSteps.{rest, rest-is}
 use Rattle.lines.specs.Scan.{as-number, keyed, one-line, starts}
 use Rattle.lines.specs.Laws.{lines, starts-sound, within}
 
+-- ---- a key
 module _ (key t : List ℕ) (i : ℕ) (so : starts key t ≡ starts (drop i key) (drop i t)) where
   pub key-end : length key ≤ i → true ≡ starts key t
   key-end h = rw (so, drop-of-length-le key h)
@@ -38,11 +39,11 @@ pub key-fits : (key t : List ℕ) (r : Bool) → r ≡ starts key t → r ≡ tr
 key-fits key t r e f = omega (arith, simp length-append at (ap length (starts-sound key t (sym e ∙ f))))
 
 -- ---- a key and a number
-module _ (key t : List ℕ) (b : Bool) (s : b ≡ starts key t) where
-  pub line-no-key : b ≡ false → Bad ≡ as-number (keyed key (one-line number) t)
+module _ (key t : List ℕ) (k : Bool) (s : k ≡ starts key t) where
+  pub line-no-key : k ≡ false → Bad ≡ as-number (keyed key (one-line number) t)
   line-no-key f = rw (← s, f)
 
-  module _ (f : b ≡ true) (r : Number) (e : r ≡ read-number (rest t (length key))) where
+  module _ (f : k ≡ true) (r : Number) (e : r ≡ read-number (rest t (length key))) where
     read : read-number (drop (length key) t) ≡ r
     read = rw (← rest-is t (length key)) (sym e)
 
@@ -50,14 +51,18 @@ module _ (key t : List ℕ) (b : Bool) (s : b ≡ starts key t) where
     line-bad g = rw (← s, f, read, g)
 
     module _ (v : ℕ) (c : Cursor) (g : r ≡ Value v c) where
-      pub line-cut : length (rest t (length key)) ≤ c .at → Bad ≡ as-number (keyed key (one-line number) t)
-      line-cut h = rw (← s, f, read, g, ← rest-is t (length key), List·getD-eq-default (rest t (length key)) 0 h)
+      module _ (b : ℕ) (w : b ≡ getD (rest t (length key)) (c .at) 0) where
+        byte-is : getD (drop (length key) t) (c .at) 0 ≡ b
+        byte-is = rw (← rest-is t (length key)) (sym w)
 
-      pub line-open : (getD (rest t (length key)) (c .at) 0 ≡ 10 → ⊥) → Bad ≡ as-number (keyed key (one-line number) t)
-      line-open h = rw (← s, f, read, g, ← rest-is t (length key), ne-eqb _ _ h)
+        pub line-open : (b ≡ 10 → ⊥) → Bad ≡ as-number (keyed key (one-line number) t)
+        line-open h = rw (← s, f, read, g, byte-is, ne-eqb _ _ h)
 
-      pub line-good : getD (rest t (length key)) (c .at) 0 ≡ 10 → Value v (record { at = length key + (c .at + 1) }) ≡ as-number (keyed key (one-line number) t)
-      line-good h = rw (← s, f, read, g, ← rest-is t (length key), h)
+        pub line-good : b ≡ 10 → Value v (record { at = length key + (c .at + 1) }) ≡ as-number (keyed key (one-line number) t)
+        line-good h = rw (← s, f, read, g, byte-is, h)
+
+        pub line-fits : b ≡ 10 → length key + (c .at + 1) ≤ length t
+        line-fits h = omega (arith, byte-within (rest t (length key)) (c .at) 10 (sym w ∙ h) (omega arith), ap length (rest-is t (length key)), length-drop (length key) t, key-fits key t k s f)
 
 -- what the scanner found, from what the code answered
 pub number-got : (g : Got ℕ) (r : Number) (v : ℕ) (c : Cursor) → r ≡ as-number g → r ≡ Value v c → g ≡ got v (c .at)

@@ -1,16 +1,16 @@
 -- What is written is read, and what is read was written: for a key in front, a line feed behind, one line behind the other. Each law is made of the laws of its parts.
 use Prim.Native.Nat.{ℕ, suc, _+_, _-_, _≤_, _<_}
-use mathlib.Core.Path.{_≡_, refl, sym, _∙_, ap, ap₂}
+use mathlib.Core.Path.{_≡_, refl, sym, _∙_, ap₂}
 use mathlib.Core.Bool.{Bool, true, false, cond}
 use mathlib.Core.List.{List, [], _∷_, _++_, append-assoc}
 use native.Mathlib.Omega.{arith}
-use native.Mathlib.Decide.{decLt, ℕ-discrete}
-use lib.ListN.{length, getD, drop, length-append, List·getD-eq-default}
+use native.Mathlib.Decide.{ℕ-discrete}
+use lib.ListN.{length, getD, drop, length-append}
 use lib.Seq.{drop-cons, drop-append-seam, getD-append-seam}
 use borrow.Author.Tests.{eq-eqb, ne-eqb}
 use Rattle.decimal.specs.Spelling.{Word, line}
 use Rattle.decimal.specs.Scan.{Got, bad, digit-of, got, read-list}
-use Rattle.decimal.specs.ListLaws.{Front, Scans, line-complete, line-sound, never-got, numbers}
+use Rattle.decimal.specs.ListLaws.{Front, Scans, byte-within, front-within, line-complete, line-sound, never-got, numbers}
 use Rattle.lines.specs.Lines.{Counted, bytes, head-text, mark-text}
 use Rattle.lines.specs.Scan.{both, head, keyed, mark, one-line, starts}
 
@@ -30,15 +30,7 @@ front-then l m t i j f g =
     }
 
 pub front-byte : (t : List ℕ) (i b : ℕ) → getD t i 0 ≡ b → 0 < b → Front (b ∷ []) (drop i t) 1
-front-byte t i b e p = elim (decLt i (length t)) [
-  | yes q ↦ record { behind = drop (suc i) t; whole = rw (← e) (drop-cons t i 0 q); place = refl }
-  | no q ↦
-      let z : getD t i 0 ≡ 0 = List·getD-eq-default t 0 (omega arith) in
-      absurd (omega arith)
-]
-
-pub front-within : (l t : List ℕ) (i : ℕ) → Front l t i → i ≤ length t
-front-within l t i f = omega (arith, f .place, ap length (f .whole), length-append l (f .behind))
+front-byte t i b e p = record { behind = drop (suc i) t; whole = rw (← e) (drop-cons t i 0 (byte-within t i b e p)); place = refl }
 
 pub within : {A : Type 0} {Ok : A → Type 0} {render : A → List ℕ} {scan : List ℕ → Got A} → Exact Ok render scan →
     (t : List ℕ) (v : A) (i : ℕ) → scan t ≡ got v i → i ≤ length t

@@ -51,10 +51,7 @@ pub fn read_number_line(text: &[u8], key: &[u8]) -> Number
             return Number::Bad;
         };
         let at = c.at;
-        if rest.len() <= at {
-            return Number::Bad;
-        }
-        if rest[at] != 10 {
+        if decimal::byte_at(rest, at) != 10 {
             return Number::Bad;
         }
         return Number::Value(v, Cursor { at: k + (at + 1) });

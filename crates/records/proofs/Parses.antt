@@ -9,12 +9,16 @@ use native.Mathlib.Omega.{arith}
 use lib.IntN.{ℤ}
 use lib.ListN.{length, take, length-drop}
 use borrow.Author.Tests.{eq-eqb, ne-eqb}
+use Rattle.decimal.specs.declared.Cursor.{Cursor}
 use Rattle.decimal.specs.declared.Listed.{Listed}
+use Rattle.decimal.specs.declared.Listed.the-variants.{Of}
 use Rattle.decimal.specs.Scan.{Filled, Got, bad, got, number, read-list, signed-number}
 use Rattle.decimal.proofs.Steps.{start}
 use Rattle.decimal.proofs.ListSteps.{rest, rest-is}
 use Rattle.lines.specs.Lines.{bytes}
 use Rattle.lines.specs.Scan.{both, head, keyed, mark}
+use Rattle.lines.specs.Laws.{Exact, within}
+use Rattle.lines.proofs.Steps.{filled-got}
 use Rattle.records.specs.declared.AnswerRead.{AnswerRead}
 use Rattle.records.specs.declared.JobRead.{JobRead}
 use Rattle.records.specs.Records.{answer, job}
@@ -30,6 +34,13 @@ pub record Line {A : Type 0} (scan : List ℕ → Got A) (t : List ℕ) : Type 0
 
 abbrev pub behind : {A : Type 0} {scan : List ℕ → Got A} {t : List ℕ} → Line scan t → List ℕ
 behind {A} {scan} {t} l = rest t (l .place)
+
+-- a list's line, from what the code answered
+abbrev pub listed : {A : Type 0} {Ok : List A → Type 0} {render : List A → List ℕ} {scan : List ℕ → Got (List A)} → Exact Ok render scan → (t : List ℕ) (r : Listed) (n : ℕ) (c : Cursor) (out : List A) →
+    Filled (scan t) r out → r ≡ Of n c → Line scan t
+listed {A} {Ok} {render} {scan} E t r n c out h e =
+    let f : scan t ≡ got (take n out) (c .at) = filled-got (scan t) r n c out h e in
+    record { value = take n out; place = c .at; found = f; fits = within E t (take n out) (c .at) f }
 
 module _ {A B X : Type 0} (start : List ℕ → Got (ℕ × ℕ)) (first : List ℕ → Got A) (second : List ℕ → Got B) (count : A × B → ℕ) (make : ℕ → A × B → X) (t : List ℕ) where
   abbrev result : Option X

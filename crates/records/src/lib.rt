@@ -149,20 +149,20 @@ fn parse_answer(text: &[u8], cs: &mut [u32]) -> AnswerRead
     };
     let b = d.at;
     let second = &first[b..];
-    let Listed::Of(n, e) = lines::read_numbers_line(second, b"coeffs=", cs) else {
+    let Listed::Of(count, e) = lines::read_numbers_line(second, b"coeffs=", cs) else {
         return refused_answer(1);
     };
     let end = e.at;
     if end != second.len() {
         return refused_answer(1);
     }
-    if degree as usize != n {
+    if degree as usize != count {
         return refused_answer(1);
     }
     AnswerRead {
         code: 0,
         modulus,
-        degree: n,
+        degree: count,
         simple,
     }
 }
@@ -176,8 +176,8 @@ pub fn read_answer(text: &[u8], coeffs: &mut [u32]) -> AnswerRead
     }
     let mut cs = [0u32; 1024];
     let r = parse_answer(text, &mut cs);
-    let n = r.degree;
-    copy_words(&cs, n, coeffs);
+    let count = r.degree;
+    copy_words(&cs, count, coeffs);
     r
 }
 

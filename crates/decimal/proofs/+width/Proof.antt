@@ -1,3 +1,4 @@
+-- `decimal::width`: the spelling of v is that of v / 10 and one digit more, so the width is one more. The measure is v.
 use Prim.Native.Nat.{ℕ, _<_}
 use borrow.Author.Needs.{needs}
 use borrow.Fn.Kinds.{In}

@@ -1,3 +1,4 @@
+-- `decimal::write_u32`: the spelling of v is that of v / 10 and then the digit v % 10: the call writes the front, the store the last digit. The measure is v.
 use Prim.Native.Nat.{ℕ, _<_}
 use native.Mathlib.Omega.{arith}
 use borrow.Author.Needs.{needs}

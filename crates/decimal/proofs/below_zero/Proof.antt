@@ -1,8 +1,7 @@
+-- `decimal::below_zero`: the comparison reads the number from its bits, which is the number.
 use Rattle.decimal.proofs.Signs as signs
 use Rattle.decimal.proofs.below_zero.Statement.{statement}
 use Rattle.decimal.proofs.below_zero.Tie as tie
-use Rattle.decimal.proofs.below_zero.Reads as reads
-use Rattle.decimal.proofs.below_zero.Lts as lts
 
 returns : tie.Need-returns
 returns c = search signs.below-is

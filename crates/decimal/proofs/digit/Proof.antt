@@ -1,4 +1,4 @@
--- `decimal::digit` meets its contract: the tests say which case of `digit-of` holds.
+-- `decimal::digit`: the tests say which case of `digit-of` holds.
 use borrow.Author.Tests.{lt-ltb, le-ltb}
 use borrow.Author.Needs.{needs}
 use Rattle.decimal.specs.Scan.{digit-of}
@@ -13,12 +13,9 @@ returns-2 : tie.Need-returns-2
 unfolding digit-of
 returns-2 c = simp (le-ltb _ _ (c .before .if1 .left), lt-ltb _ _ (c .if2 .taken))
 
-cast-result : tie.Need-cast-result
-cast-result c = search needs
-
 returns-3 : tie.Need-returns-3
 unfolding digit-of
 returns-3 c = simp (le-ltb _ _ (c .before .if1 .left), le-ltb _ _ (c .if2 .left))
 
 pub digit-spec : {M : Type 1} → statement M
-digit-spec = tie.close (tie.spec returns returns-2 cast-result returns-3)
+digit-spec = tie.close (tie.spec returns returns-2 (λ c. search needs) returns-3)

@@ -1,3 +1,4 @@
+-- `decimal::each_small`: the loop's invariant: the test of all is the test of those that are left.
 use Prim.Native.Nat.{_-_, _≤_}
 use mathlib.Core.Path.{_≡_}
 use lib.ListN.{length, drop}
@@ -6,33 +7,12 @@ use Rattle.decimal.specs.Written.{all-small}
 use Rattle.decimal.proofs.SignedWrites as writes
 use Rattle.decimal.proofs.each_small.Statement.{statement}
 use Rattle.decimal.proofs.each_small.Tie as tie
-use Rattle.decimal.proofs.each_small.Reads as reads
-use Rattle.decimal.proofs.each_small.Lts as lts
-use Rattle.decimal.proofs.small.Reads as small-reads
 
 abbrev Inv-loop : tie.InvT-loop
 Inv-loop xs i₀ i = (i ≤ length xs) × (all-small xs ≡ all-small (drop i xs))
 
 abbrev μ-loop : tie.MeasureT-loop
 μ-loop xs i₀ i = length xs - i
-
-loop-holds : tie.Need-loop-holds Inv-loop μ-loop
-loop-holds c = search needs
-
-mul-small : tie.Need-mul-small Inv-loop μ-loop
-mul-small c = search needs
-
-shared-slice-copy-out-small : tie.Need-shared-slice-copy-out-small Inv-loop μ-loop
-shared-slice-copy-out-small c = search needs
-
-small-requires : tie.Need-small-requires Inv-loop μ-loop
-small-requires c κs = search needs
-
-add-i : tie.Need-add-i Inv-loop μ-loop
-add-i c = search needs
-
-loop-less : tie.Need-loop-less Inv-loop μ-loop
-loop-less c = search needs
 
 loop-again : tie.Need-loop-again Inv-loop μ-loop
 loop-again c = (search needs, search (writes.all-next, needs))
@@ -49,12 +29,12 @@ each-small-spec =
     (tie.spec
     Inv-loop
     μ-loop
-    loop-holds
-    mul-small
-    shared-slice-copy-out-small
-    small-requires
-    add-i
-    loop-less
+    (λ c. search needs)
+    (λ c. search needs)
+    (λ c. search needs)
+    (λ c κs. search needs)
+    (λ c. search needs)
+    (λ c. search needs)
     loop-again
     returns
     returns-2)

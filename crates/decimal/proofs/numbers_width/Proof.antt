@@ -1,3 +1,4 @@
+-- `decimal::numbers_width`: the loop's invariant: what was added and the width of what is left make the whole width. Each item adds its own width and one separator.
 use Prim.Native.Nat.{_+_, _-_, _*_, _≤_}
 use mathlib.Core.Path.{_≡_, ap}
 use native.Mathlib.Omega.{arith}
@@ -7,9 +8,6 @@ use Rattle.decimal.specs.Spelling.{decimal, line}
 use Rattle.decimal.proofs.ListWrites as writes
 use Rattle.decimal.proofs.numbers_width.Statement.{statement}
 use Rattle.decimal.proofs.numbers_width.Tie as tie
-use Rattle.decimal.proofs.numbers_width.Reads as reads
-use Rattle.decimal.proofs.numbers_width.Lts as lts
-use Rattle.decimal.proofs.width.Reads as width-reads
 
 abbrev Inv-loop : tie.InvT-loop
 Inv-loop xs n₀ i₀ n i = (i ≤ length xs) × (n + length (line decimal (drop i xs)) ≡ length (line decimal xs)) × (n ≤ i * 4294967298)
@@ -23,29 +21,11 @@ len-at : (c : tie.In-loop Inv-loop μ-loop) →
     ≡ length (decimal (getD (c .before .before .before .args .xs .now) (c .before .loop .i) 0)) + (1 + length (line decimal (drop (c .before .loop .i + 1) (c .before .before .before .args .xs .now))))
 len-at c = writes.line-length decimal (c .before .before .before .args .xs .now) (c .before .loop .i) 0 (c .loop-test .taken)
 
-loop-holds : tie.Need-loop-holds Inv-loop μ-loop
-loop-holds c = search needs
-
-mul-width : tie.Need-mul-width Inv-loop μ-loop
-mul-width c = search needs
-
-shared-slice-read-width : tie.Need-shared-slice-read-width Inv-loop μ-loop
-shared-slice-read-width c = search needs
-
-width-requires : tie.Need-width-requires Inv-loop μ-loop
-width-requires c κs = search needs
-
 add-n : tie.Need-add-n Inv-loop μ-loop
 add-n c = omega (arith, c .before .shared-slice-known2 .given (c .before .before .before .loop .i))
 
 add-n-2 : tie.Need-add-n-2 Inv-loop μ-loop
 add-n-2 c = omega (arith, c .before .shared-slice-known2 .given (c .before .before .before .loop .i))
-
-add-i : tie.Need-add-i Inv-loop μ-loop
-add-i c = search needs
-
-loop-less : tie.Need-loop-less Inv-loop μ-loop
-loop-less c = search needs
 
 loop-again : tie.Need-loop-again Inv-loop μ-loop
 loop-again c = omega (arith, len-at (c .before .before), c .before .shared-slice-known2 .given (c .before .before .before .loop .i))
@@ -59,13 +39,13 @@ numbers-width-spec =
     (tie.spec
     Inv-loop
     μ-loop
-    loop-holds
-    mul-width
-    shared-slice-read-width
-    width-requires
+    (λ c. search needs)
+    (λ c. search needs)
+    (λ c. search needs)
+    (λ c κs. search needs)
     add-n
     add-n-2
-    add-i
-    loop-less
+    (λ c. search needs)
+    (λ c. search needs)
     loop-again
     returns)

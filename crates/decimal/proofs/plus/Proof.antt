@@ -1,15 +1,11 @@
+-- `decimal::plus`: a number up to 999 is the same as a signed word.
 use borrow.Author.Needs.{needs}
 use Rattle.decimal.proofs.SignedSteps as steps
 use Rattle.decimal.proofs.plus.Statement.{statement}
 use Rattle.decimal.proofs.plus.Tie as tie
-use Rattle.decimal.proofs.plus.Reads as reads
-use Rattle.decimal.proofs.plus.Lts as lts
-
-cast-result : tie.Need-cast-result
-cast-result c = search needs
 
 returns : tie.Need-returns
 returns c = search steps.plus-is
 
 pub plus-spec : {M : Type 1} → statement M
-plus-spec = tie.close (tie.spec cast-result returns)
+plus-spec = tie.close (tie.spec (λ c. search needs) returns)

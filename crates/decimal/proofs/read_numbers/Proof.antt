@@ -1,3 +1,5 @@
+-- `decimal::read_numbers`: the loop's invariant: reading the whole is going on reading from place `at`, with the first n words of out as the numbers so far.
+-- Each way out is one step of the list's scanner.
 use Prim.Native.Nat.{_-_, _≤_}
 use mathlib.Core.Path.{_≡_}
 use native.Mathlib.Omega.{arith}
@@ -5,12 +7,10 @@ use native.Mathlib.Nat.{sub-zero}
 use lib.ListN.{length, take, drop, length-set}
 use borrow.Author.Needs.{needs}
 use Rattle.decimal.specs.Scan.{got, more-items, number, read-list}
+use Rattle.decimal.specs.ListLaws.{numbers}
 use Rattle.decimal.proofs.ListSteps as steps
 use Rattle.decimal.proofs.read_numbers.Statement.{statement}
 use Rattle.decimal.proofs.read_numbers.Tie as tie
-use Rattle.decimal.proofs.read_numbers.Reads as reads
-use Rattle.decimal.proofs.read_numbers.Lts as lts
-use Rattle.decimal.proofs.read_u32.Reads as read-u32-reads
 
 abbrev Inv-loop : tie.InvT-loop
 Inv-loop part out₀ n₀ at₀ out n at =
@@ -19,84 +19,36 @@ Inv-loop part out₀ n₀ at₀ out n at =
 abbrev μ-loop : tie.MeasureT-loop
 μ-loop part out₀ n₀ at₀ out n at = length out - n
 
-loop-holds : tie.Need-loop-holds Inv-loop μ-loop
-loop-holds c = (search needs, search needs, search needs, simp sub-zero)
-
-sub-rest : tie.Need-sub-rest Inv-loop μ-loop
-sub-rest c = search needs
-
-part-rest-start : tie.Need-part-rest-start Inv-loop μ-loop
-part-rest-start c = search needs
-
-part-rest-end : tie.Need-part-rest-end Inv-loop μ-loop
-part-rest-end c = search needs
-
-read-u32-requires : tie.Need-read-u32-requires Inv-loop μ-loop
-read-u32-requires c κs = search needs
-
-enum-known-v : tie.Need-enum-known-v Inv-loop μ-loop
-enum-known-v c = search needs
-
-enum-told : tie.Need-enum-told Inv-loop μ-loop
-enum-told c = search needs
-
-same-length : tie.Need-same-length Inv-loop μ-loop
-same-length c = search needs
-
-returns : tie.Need-returns Inv-loop μ-loop
-returns c = search (steps.no-item, steps.number-none)
-
-same-length-2 : tie.Need-same-length-2 Inv-loop μ-loop
-same-length-2 c = search needs
-
 -- the number that was read, for each place behind it
 read-at : (c : tie.After-v Inv-loop μ-loop) → number (drop (c .before .before .before .before .before .loop .at) (c .before .before .before .before .before .before .before .before .args .part .now)) ≡ got (c .v .given .0 .0) (c .v .given .0 .1 .0 .at)
 read-at c = steps.number-is (c .before .before .before .before .before .before .before .before .args .part .now) (c .before .before .before .before .before .loop .at) _ _ _ (c .before .before .read-u32 .ensures) (c .v .given .1)
 
-returns-2 : tie.Need-returns-2 Inv-loop μ-loop
-returns-2 c = search (steps.cut, read-at (c .before .before))
+loop-holds : tie.Need-loop-holds Inv-loop μ-loop
+loop-holds c = (search needs, search needs, search needs, simp sub-zero)
 
-shared-slice-read-b : tie.Need-shared-slice-read-b Inv-loop μ-loop
-shared-slice-read-b c = search needs
-
-mul-out : tie.Need-mul-out Inv-loop μ-loop
-mul-out c = search needs
-
-slice-write-out : tie.Need-slice-write-out Inv-loop μ-loop
-slice-write-out c = search needs
-
-add-n : tie.Need-add-n Inv-loop μ-loop
-add-n c = search needs
+returns : tie.Need-returns Inv-loop μ-loop
+returns c = search (steps.no-item, steps.number-none)
 
 add-at : tie.Need-add-at Inv-loop μ-loop
-add-at c = search needs
+add-at c = omega (arith, steps.item-fits numbers (c .before .before .before .before .before .before .before .before .before .before .args .part .now) (c .before .before .before .before .before .before .before .loop .at) (c .before .before .before .before .before .before .before .loop .inv .1) _ _ (read-at (c .before .before)))
 
 add-at-2 : tie.Need-add-at-2 Inv-loop μ-loop
-add-at-2 c = search needs
+add-at-2 c = omega (arith, steps.item-fits numbers (c .before .before .before .before .before .before .before .before .before .before .args .part .now) (c .before .before .before .before .before .before .before .loop .at) (c .before .before .before .before .before .before .before .loop .inv .1) _ _ (read-at (c .before .before)))
 
-same-length-3 : tie.Need-same-length-3 Inv-loop μ-loop
-same-length-3 c = search needs
+returns-2 : tie.Need-returns-2 Inv-loop μ-loop
+returns-2 c = steps.done number _ (c .before .before .before .before .before .before .before .before .before .before .before .args .part .now) (c .before .before .before .before .before .before .before .before .loop .out) (c .before .before .before .before .before .before .before .before .loop .n) (c .before .before .before .before .before .before .before .before .loop .at) (c .before .before .before .before .before .before .before .before .loop .inv .3) (c .before .before .before .before .before .before .before .before .loop .inv .2) (c .before .before .before .before .before .before .before .loop-test .taken) _ _ (read-at (c .before .before .before)) _ (c .before .byte-at .ensures) (c .if1 .taken)
 
 returns-3 : tie.Need-returns-3 Inv-loop μ-loop
-returns-3 c = search (steps.done, read-at (c .before .before .before .before))
-
-same-length-4 : tie.Need-same-length-4 Inv-loop μ-loop
-same-length-4 c = search needs
-
-returns-4 : tie.Need-returns-4 Inv-loop μ-loop
-returns-4 c = search (steps.other, read-at (c .before .before .before .before .before))
+returns-3 c = search (steps.other, read-at (c .before .before .before .before))
 
 loop-less : tie.Need-loop-less Inv-loop μ-loop
 loop-less c = simp length-set (omega arith)
 
 loop-again : tie.Need-loop-again Inv-loop μ-loop
-loop-again c = (simp length-set (omega arith), search needs, simp length-set (search needs), search (steps.more, read-at (c .before .before .before .before .before)))
+loop-again c = (simp length-set (omega arith), steps.comma-fits numbers (c .before .before .before .before .before .before .before .before .before .before .before .before .args .part .now) (c .before .before .before .before .before .before .before .before .before .loop .at) (c .before .before .before .before .before .before .before .before .before .loop .inv .1) _ _ (read-at (c .before .before .before .before)) _ (c .before .before .byte-at .ensures) (c .if2 .left), simp length-set (search needs), steps.more number _ (c .before .before .before .before .before .before .before .before .before .before .before .before .args .part .now) (c .before .before .before .before .before .before .before .before .before .loop .out) (c .before .before .before .before .before .before .before .before .before .loop .n) (c .before .before .before .before .before .before .before .before .before .loop .at) (c .before .before .before .before .before .before .before .before .before .loop .inv .3) (c .before .before .before .before .before .before .before .before .before .loop .inv .2) (c .before .before .before .before .before .before .before .before .loop-test .taken) _ _ (read-at (c .before .before .before .before)) _ (c .before .before .byte-at .ensures) (c .before .if1 .left) (c .if2 .left))
 
-same-length-5 : tie.Need-same-length-5 Inv-loop μ-loop
-same-length-5 c = search needs
-
-returns-5 : tie.Need-returns-5 Inv-loop μ-loop
-returns-5 c = search steps.full
+returns-4 : tie.Need-returns-4 Inv-loop μ-loop
+returns-4 c = search steps.full
 
 pub read-numbers-spec : {M : Type 1} → statement M
 read-numbers-spec =
@@ -105,27 +57,25 @@ read-numbers-spec =
     Inv-loop
     μ-loop
     loop-holds
-    sub-rest
-    part-rest-start
-    part-rest-end
-    read-u32-requires
-    enum-known-v
-    enum-told
-    same-length
+    (λ c. search needs)
+    (λ c. search needs)
+    (λ c. search needs)
+    (λ c κs. search needs)
+    (λ c. search needs)
+    (λ c. search needs)
+    (λ c. search needs)
     returns
-    same-length-2
-    returns-2
-    shared-slice-read-b
-    mul-out
-    slice-write-out
-    add-n
+    (λ c κs. search needs)
+    (λ c. search needs)
+    (λ c. search needs)
+    (λ c. search needs)
     add-at
     add-at-2
-    same-length-3
+    (λ c. search needs)
+    returns-2
+    (λ c. search needs)
     returns-3
-    same-length-4
-    returns-4
     loop-less
     loop-again
-    same-length-5
-    returns-5)
+    (λ c. search needs)
+    returns-4)

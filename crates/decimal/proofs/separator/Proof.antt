@@ -1,9 +1,8 @@
+-- `decimal::separator`: the test is the one of `separator-of`.
 use borrow.Author.Tests.{eq-eqb, ne-eqb}
 use Rattle.decimal.specs.Written.{separator-of}
 use Rattle.decimal.proofs.separator.Statement.{statement}
 use Rattle.decimal.proofs.separator.Tie as tie
-use Rattle.decimal.proofs.separator.Reads as reads
-use Rattle.decimal.proofs.separator.Lts as lts
 
 returns : tie.Need-returns
 unfolding separator-of

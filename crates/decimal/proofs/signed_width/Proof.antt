@@ -1,3 +1,4 @@
+-- `decimal::signed_width`: the spelling is that of the size, with a minus sign in front below zero.
 use mathlib.Core.Path.{ap}
 use native.Mathlib.Omega.{arith}
 use lib.IntN.{natAbs}
@@ -8,23 +9,6 @@ use borrow.Author.Needs.{needs}
 use Rattle.decimal.proofs.SignedWrites as writes
 use Rattle.decimal.proofs.signed_width.Statement.{statement}
 use Rattle.decimal.proofs.signed_width.Tie as tie
-use Rattle.decimal.proofs.signed_width.Reads as reads
-use Rattle.decimal.proofs.signed_width.Lts as lts
-use Rattle.decimal.proofs.width.Reads as width-reads
-use Rattle.decimal.proofs.below_zero.Reads as below-zero-reads
-use Rattle.decimal.proofs.size.Reads as size-reads
-
-size-requires : tie.Need-size-requires
-size-requires c κs = search needs
-
-width-requires : tie.Need-width-requires
-width-requires c κs = search needs
-
-below-zero-requires : tie.Need-below-zero-requires
-below-zero-requires c κs = search needs
-
-add-result : tie.Need-add-result
-add-result c = search needs
 
 returns : tie.Need-returns
 returns c = omega (arith, ap length (writes.signed-neg (c .before .before .before .before .args .z) (c .before .before .before .before .fits .z) _ _ (c .before .before .before .size .ensures) (c .before .below-zero .ensures) (c .if1 .taken)), ap natAbs (toZ-ofZ w32 (c .before .before .before .before .args .z) (c .before .before .before .before .fits .z)))
@@ -35,4 +19,4 @@ returns-2 c = omega (arith, ap length (writes.signed-pos (c .before .before .bef
 pub signed-width-spec : {M : Type 1} → statement M
 signed-width-spec =
     tie.close
-    (tie.spec size-requires width-requires below-zero-requires add-result returns returns-2)
+    (tie.spec (λ c κs. search needs) (λ c κs. search needs) (λ c κs. search needs) (λ c. search needs) returns returns-2)

@@ -1,3 +1,4 @@
+-- `decimal::signeds_width`: as `numbers_width`; an item is read by its bits.
 use Prim.Native.Nat.{_+_, _-_, _*_, _≤_}
 use mathlib.Core.Path.{_≡_, ap}
 use native.Mathlib.Omega.{arith}
@@ -8,9 +9,6 @@ use Rattle.decimal.proofs.ListWrites as lines
 use Rattle.decimal.proofs.SignedWrites as writes
 use Rattle.decimal.proofs.signeds_width.Statement.{statement}
 use Rattle.decimal.proofs.signeds_width.Tie as tie
-use Rattle.decimal.proofs.signeds_width.Reads as reads
-use Rattle.decimal.proofs.signeds_width.Lts as lts
-use Rattle.decimal.proofs.signed_width.Reads as signed-width-reads
 
 abbrev Inv-loop : tie.InvT-loop
 Inv-loop xs n₀ i₀ n i = (i ≤ length xs) × (n + length (line signed (drop i xs)) ≡ length (line signed xs)) × (n ≤ i * 1002)
@@ -18,29 +16,8 @@ Inv-loop xs n₀ i₀ n i = (i ≤ length xs) × (n + length (line signed (drop 
 abbrev μ-loop : tie.MeasureT-loop
 μ-loop xs n₀ i₀ n i = length xs - i
 
-loop-holds : tie.Need-loop-holds Inv-loop μ-loop
-loop-holds c = search needs
-
-mul-signed-width : tie.Need-mul-signed-width Inv-loop μ-loop
-mul-signed-width c = search needs
-
-shared-slice-copy-out-signed-width : tie.Need-shared-slice-copy-out-signed-width Inv-loop μ-loop
-shared-slice-copy-out-signed-width c = search needs
-
 signed-width-requires : tie.Need-signed-width-requires Inv-loop μ-loop
 signed-width-requires c κs = writes.item-small (c .before .before .before .args .zs .now) (c .before .before .loop .i) (c .before .before .before .pre .1) (c .before .loop-test .taken)
-
-add-n : tie.Need-add-n Inv-loop μ-loop
-add-n c = search needs
-
-add-n-2 : tie.Need-add-n-2 Inv-loop μ-loop
-add-n-2 c = search needs
-
-add-i : tie.Need-add-i Inv-loop μ-loop
-add-i c = search needs
-
-loop-less : tie.Need-loop-less Inv-loop μ-loop
-loop-less c = search needs
 
 loop-again : tie.Need-loop-again Inv-loop μ-loop
 loop-again c = omega (arith, writes.item-length (c .before .before .before .before .args .zs .now) (c .before .before .before .loop .i) (c .before .before .before .before .pre .1) (c .before .before .loop-test .taken))
@@ -54,13 +31,13 @@ signeds-width-spec =
     (tie.spec
     Inv-loop
     μ-loop
-    loop-holds
-    mul-signed-width
-    shared-slice-copy-out-signed-width
+    (λ c. search needs)
+    (λ c. search needs)
+    (λ c. search needs)
     signed-width-requires
-    add-n
-    add-n-2
-    add-i
-    loop-less
+    (λ c. search needs)
+    (λ c. search needs)
+    (λ c. search needs)
+    (λ c. search needs)
     loop-again
     returns)

@@ -1,8 +1,7 @@
+-- `decimal::size`: below zero the difference from 0 is the size, and else the number itself.
 use Rattle.decimal.proofs.Signs as signs
 use Rattle.decimal.proofs.size.Statement.{statement}
 use Rattle.decimal.proofs.size.Tie as tie
-use Rattle.decimal.proofs.size.Reads as reads
-use Rattle.decimal.proofs.size.Lts as lts
 
 sub-result : tie.Need-sub-result
 sub-result c = search signs.minus-fits

@@ -1,8 +1,7 @@
+-- `decimal::small`: the two tests bound the size from both sides.
 use Rattle.decimal.proofs.Signs as signs
 use Rattle.decimal.proofs.small.Statement.{statement}
 use Rattle.decimal.proofs.small.Tie as tie
-use Rattle.decimal.proofs.small.Reads as reads
-use Rattle.decimal.proofs.small.Lts as lts
 
 returns : tie.Need-returns
 returns c = search signs.too-low

@@ -1,3 +1,4 @@
+-- `decimal::write_numbers`: the loop's invariant, `Writing`: what is left to write, over what was written, is the whole line.
 use Prim.Native.Nat.{_+_, _-_, _<_}
 use native.Mathlib.Omega.{arith}
 use lib.ListN.{length, getD}
@@ -7,10 +8,6 @@ use Rattle.decimal.proofs.ListWrites.{Writing}
 use Rattle.decimal.proofs.ListWrites as writes
 use Rattle.decimal.proofs.write_numbers.Statement.{statement}
 use Rattle.decimal.proofs.write_numbers.Tie as tie
-use Rattle.decimal.proofs.write_numbers.Reads as reads
-use Rattle.decimal.proofs.write_numbers.Lts as lts
-use Rattle.decimal.proofs.write_u32.Reads as write-u32-reads
-use Rattle.decimal.proofs.separator.Reads as separator-reads
 
 abbrev Inv-loop : tie.InvT-loop
 Inv-loop out₀ at xs p₀ i₀ out p i = Writing decimal xs out₀ at out p i
@@ -25,20 +22,8 @@ room c = writes.writing-room decimal _ _ _ _ _ _ (c .before .loop .inv) 0 (c .lo
 loop-holds : tie.Need-loop-holds Inv-loop μ-loop
 loop-holds c = writes.writing-none decimal _ _ _
 
-mul-write-u32 : tie.Need-mul-write-u32 Inv-loop μ-loop
-mul-write-u32 c = search needs
-
-shared-slice-read-write-u32 : tie.Need-shared-slice-read-write-u32 Inv-loop μ-loop
-shared-slice-read-write-u32 c = search needs
-
 write-u32-requires : tie.Need-write-u32-requires Inv-loop μ-loop
 write-u32-requires c κs = omega (arith, room (c .before .before))
-
-add-i : tie.Need-add-i Inv-loop μ-loop
-add-i c = search needs
-
-separator-requires : tie.Need-separator-requires Inv-loop μ-loop
-separator-requires c κs = search needs
 
 slice-write-out : tie.Need-slice-write-out Inv-loop μ-loop
 slice-write-out c = omega (arith, room (c .before .before .before .before .before .before))
@@ -46,14 +31,8 @@ slice-write-out c = omega (arith, room (c .before .before .before .before .befor
 add-p : tie.Need-add-p Inv-loop μ-loop
 add-p c = omega (arith, room (c .before .before .before .before .before .before))
 
-loop-less : tie.Need-loop-less Inv-loop μ-loop
-loop-less c = search needs
-
 loop-again : tie.Need-loop-again Inv-loop μ-loop
 loop-again c = writes.writing-more decimal _ _ _ _ _ _ (c .before .before .before .before .before .before .before .loop .inv) 0 (c .before .before .before .before .before .before .loop-test .taken) _ _ _ (c .before .before .before .write-u32 .ensures) (c .before .before .before .write-u32 .kept .0) (c .separator .ensures)
-
-same-length : tie.Need-same-length Inv-loop μ-loop
-same-length c = search needs
 
 returns : tie.Need-returns Inv-loop μ-loop
 returns c = writes.writing-end decimal _ _ _ _ _ _ (c .before .loop .inv) (c .loop-test .left)
@@ -65,14 +44,14 @@ write-numbers-spec =
     Inv-loop
     μ-loop
     loop-holds
-    mul-write-u32
-    shared-slice-read-write-u32
+    (λ c. search needs)
+    (λ c. search needs)
     write-u32-requires
-    add-i
-    separator-requires
+    (λ c. search needs)
+    (λ c κs. search needs)
     slice-write-out
     add-p
-    loop-less
+    (λ c. search needs)
     loop-again
-    same-length
+    (λ c. search needs)
     returns)

@@ -1,3 +1,4 @@
+-- `decimal::write_signed`: the spelling is that of the size, with a minus sign in front below zero: the store writes the sign, the call the size.
 use mathlib.Core.Path.{_∙_, ap}
 use native.Mathlib.Omega.{arith}
 use lib.ListN.{length, length-set}
@@ -5,23 +6,9 @@ use borrow.Author.Needs.{needs}
 use Rattle.decimal.proofs.SignedWrites as writes
 use Rattle.decimal.proofs.write_signed.Statement.{statement}
 use Rattle.decimal.proofs.write_signed.Tie as tie
-use Rattle.decimal.proofs.write_signed.Reads as reads
-use Rattle.decimal.proofs.write_signed.Lts as lts
-use Rattle.decimal.proofs.write_u32.Reads as write-u32-reads
-use Rattle.decimal.proofs.below_zero.Reads as below-zero-reads
-use Rattle.decimal.proofs.size.Reads as size-reads
-
-size-requires : tie.Need-size-requires
-size-requires c κs = search needs
-
-below-zero-requires : tie.Need-below-zero-requires
-below-zero-requires c κs = search needs
 
 slice-write-out : tie.Need-slice-write-out
 slice-write-out c = omega (arith, ap length (writes.signed-neg (c .before .before .before .before .args .z) (c .before .before .before .before .fits .z) _ _ (c .before .before .size .ensures) (c .before .below-zero .ensures) (c .if1 .taken)))
-
-add-write-u32 : tie.Need-add-write-u32
-add-write-u32 c = search needs
 
 write-u32-requires : tie.Need-write-u32-requires
 write-u32-requires c κs = simp length-set (omega (arith, ap length (writes.signed-neg (c .before .before .before .before .before .args .z) (c .before .before .before .before .before .fits .z) _ _ (c .before .before .before .size .ensures) (c .before .before .below-zero .ensures) (c .before .if1 .taken))))
@@ -35,9 +22,6 @@ returns c = rw (writes.signed-neg (c .before .before .before .before .before .be
 write-u32-requires-2 : tie.Need-write-u32-requires-2
 write-u32-requires-2 c κs = omega (arith, ap length (writes.signed-pos (c .before .before .before .before .before .args .z) (c .before .before .before .before .before .fits .z) _ _ (c .before .before .before .size .ensures) (c .before .before .below-zero .ensures) (c .before .if1 .left)))
 
-same-length-2 : tie.Need-same-length-2
-same-length-2 c = search needs
-
 returns-2 : tie.Need-returns-2
 returns-2 c = rw (writes.signed-pos (c .before .before .before .before .before .before .before .before .args .z) (c .before .before .before .before .before .before .before .before .fits .z) _ _ (c .before .before .before .before .before .before .size .ensures) (c .before .before .before .before .before .below-zero .ensures) (c .before .before .before .before .if1 .left)) (c .before .before .write-u322 .ensures)
 
@@ -45,13 +29,13 @@ pub write-signed-spec : {M : Type 1} → statement M
 write-signed-spec =
     tie.close
     (tie.spec
-    size-requires
-    below-zero-requires
+    (λ c κs. search needs)
+    (λ c κs. search needs)
     slice-write-out
-    add-write-u32
+    (λ c. search needs)
     write-u32-requires
     same-length
     returns
     write-u32-requires-2
-    same-length-2
+    (λ c. search needs)
     returns-2)

@@ -1,3 +1,4 @@
+-- `lines::has_key`: the loop's invariant: the text starts with the key exactly if the rest of the text starts with the rest of the key.
 use Prim.Native.Nat.{_-_, _≤_}
 use mathlib.Core.Path.{_≡_}
 use lib.ListN.{length, drop}
@@ -6,8 +7,6 @@ use Rattle.lines.specs.Scan.{starts}
 use Rattle.lines.proofs.Steps as steps
 use Rattle.lines.proofs.has_key.Statement.{statement}
 use Rattle.lines.proofs.has_key.Tie as tie
-use Rattle.lines.proofs.has_key.Reads as reads
-use Rattle.lines.proofs.has_key.Lts as lts
 
 abbrev Inv-loop : tie.InvT-loop
 Inv-loop text key i₀ i = (i ≤ length key) × (starts key text ≡ starts (drop i key) (drop i text))
@@ -15,26 +14,11 @@ Inv-loop text key i₀ i = (i ≤ length key) × (starts key text ≡ starts (dr
 abbrev μ-loop : tie.MeasureT-loop
 μ-loop text key i₀ i = length key - i
 
-loop-holds : tie.Need-loop-holds Inv-loop μ-loop
-loop-holds c = search needs
-
 returns : tie.Need-returns Inv-loop μ-loop
 returns c = search steps.text-end
 
-shared-slice-read-if2 : tie.Need-shared-slice-read-if2 Inv-loop μ-loop
-shared-slice-read-if2 c = search needs
-
-shared-slice-read-if2-2 : tie.Need-shared-slice-read-if2-2 Inv-loop μ-loop
-shared-slice-read-if2-2 c = search needs
-
 returns-2 : tie.Need-returns-2 Inv-loop μ-loop
 returns-2 c = search steps.differs
-
-add-i : tie.Need-add-i Inv-loop μ-loop
-add-i c = search needs
-
-loop-less : tie.Need-loop-less Inv-loop μ-loop
-loop-less c = search needs
 
 loop-again : tie.Need-loop-again Inv-loop μ-loop
 loop-again c = (search needs, search steps.agrees)
@@ -48,12 +32,12 @@ has-key-spec =
     (tie.spec
     Inv-loop
     μ-loop
-    loop-holds
+    (λ c. search needs)
     returns
-    shared-slice-read-if2
-    shared-slice-read-if2-2
+    (λ c. search needs)
+    (λ c. search needs)
     returns-2
-    add-i
-    loop-less
+    (λ c. search needs)
+    (λ c. search needs)
     loop-again
     returns-3)

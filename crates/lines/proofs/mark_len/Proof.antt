@@ -1,16 +1,13 @@
+-- `lines::mark_len`: each of the two lines has its length.
 use native.Mathlib.Omega.{arith}
 use Rattle.lines.specs.Lines.{bytes, mark-text}
 use Rattle.lines.proofs.mark_len.Statement.{statement}
 use Rattle.lines.proofs.mark_len.Tie as tie
-use Rattle.lines.proofs.mark_len.Reads as reads
-use Rattle.lines.proofs.mark_len.Lts as lts
 
--- src/lib.rt:303:9
 returns : tie.Need-returns
 unfolding mark-text bytes
 returns c = rw (c .if1 .taken) (omega arith)
 
--- src/lib.rt:299:1
 returns-2 : tie.Need-returns-2
 unfolding mark-text bytes
 returns-2 c = rw (c .if1 .left) (omega arith)

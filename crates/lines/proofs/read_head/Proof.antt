@@ -1,3 +1,4 @@
+-- `lines::read_head`: the two lines are read one behind the other; a bad one is a bad head.
 use Prim.Native.Nat.{ℕ, _≤_}
 use mathlib.Core.Path.{_≡_, ap}
 use mathlib.Core.List.{List}
@@ -14,9 +15,6 @@ use Rattle.lines.proofs.Steps.{number-bad, number-got}
 use Rattle.lines.proofs.Heads as heads
 use Rattle.lines.proofs.read_head.Statement.{statement}
 use Rattle.lines.proofs.read_head.Tie as tie
-use Rattle.lines.proofs.read_head.Reads as reads
-use Rattle.lines.proofs.read_head.Lts as lts
-use Rattle.lines.proofs.read_number_line.Reads as read-number-line-reads
 
 -- the scanners of the two lines
 abbrev f : List ℕ → Got ℕ
@@ -38,68 +36,26 @@ found-2 : (c : tie.After-degree) → g (rest (c .before .before .before .before 
 unfolding bytes
 found-2 c = number-got (g (rest (c .before .before .before .before .before .before .before .before .before .before .before .args .text .now) (c .before .before .before .before .before .before .modulus .given .0 .1 .0 .at))) _ _ _ (c .before .before .read-number-line2 .ensures) (c .degree .given .1)
 
--- src/lib.rt:97:67
-slice-aggregate-read-number-line : tie.Need-slice-aggregate-read-number-line
-slice-aggregate-read-number-line c = search needs
-
--- src/lib.rt:97:37
-read-number-line-requires : tie.Need-read-number-line-requires
-read-number-line-requires c κs = search needs
-
--- src/lib.rt:97:23
-enum-known-modulus : tie.Need-enum-known-modulus
-enum-known-modulus c = search needs
-
--- src/lib.rt:98:9
-enum-told : tie.Need-enum-told
-enum-told c = search needs
-
--- src/lib.rt:98:9
 returns : tie.Need-returns
 unfolding head bytes
 returns c = heads.no-first f g (c .before .before .before .before .before .args .text .now) (number-bad (f (c .before .before .before .before .before .args .text .now)) _ (c .before .before .read-number-line .ensures) (c .enum-told .given .1))
 
--- src/lib.rt:101:60
 sub-read-number-line : tie.Need-sub-read-number-line
 sub-read-number-line c = omega (arith, fits (c .before))
 
--- src/lib.rt:101:60
 part-read-number-line-start : tie.Need-part-read-number-line-start
 part-read-number-line-start c = omega (arith, fits (c .before))
 
--- src/lib.rt:101:60
-part-read-number-line-end : tie.Need-part-read-number-line-end
-part-read-number-line-end c = search needs
-
--- src/lib.rt:101:73
-slice-aggregate-read-number-line-2 : tie.Need-slice-aggregate-read-number-line-2
-slice-aggregate-read-number-line-2 c = search needs
-
--- src/lib.rt:101:36
-read-number-line-requires-2 : tie.Need-read-number-line-requires-2
-read-number-line-requires-2 c κs = search needs
-
--- src/lib.rt:101:23
-enum-known-degree : tie.Need-enum-known-degree
-enum-known-degree c = search needs
-
--- src/lib.rt:102:9
-enum-told-2 : tie.Need-enum-told-2
-enum-told-2 c = search needs
-
--- src/lib.rt:102:9
 returns-2 : tie.Need-returns-2
 unfolding head bytes
 returns-2 c = heads.no-second f g (c .before .before .before .before .before .before .before .before .before .before .before .args .text .now) _ _ (found (c .before .before .before .before .before .before)) (number-bad (g (rest (c .before .before .before .before .before .before .before .before .before .before .before .args .text .now) (c .before .before .before .before .before .before .modulus .given .0 .1 .0 .at))) _ (c .before .before .read-number-line2 .ensures) (c .enum-told2 .given .1))
 
--- src/lib.rt:105:44
 add-t15 : tie.Need-add-t15
 add-t15 c =
     let t = c .before .before .before .before .before .before .before .before .before .before .before .before .args .text .now in
     let i = c .before .before .before .before .before .before .before .modulus .given .0 .1 .0 .at in
     omega (arith, fits (c .before .before .before .before .before .before .before), within (keyeds (bytes "degree=") (one-lines numbers)) _ _ _ (found-2 (c .before)), ap length (rest-is t i), length-drop i t)
 
--- src/lib.rt:94:1
 returns-3 : tie.Need-returns-3
 unfolding head
 returns-3 c = heads.both-there f g (c .before .before .before .before .before .before .before .before .before .before .before .before .args .text .now) _ _ (found (c .before .before .before .before .before .before .before)) _ _ (found-2 (c .before))
@@ -108,18 +64,18 @@ pub read-head-spec : {M : Type 1} → statement M
 read-head-spec =
     tie.close
     (tie.spec
-    slice-aggregate-read-number-line
-    read-number-line-requires
-    enum-known-modulus
-    enum-told
+    (λ c. search needs)
+    (λ c κs. search needs)
+    (λ c. search needs)
+    (λ c. search needs)
     returns
     sub-read-number-line
     part-read-number-line-start
-    part-read-number-line-end
-    slice-aggregate-read-number-line-2
-    read-number-line-requires-2
-    enum-known-degree
-    enum-told-2
+    (λ c. search needs)
+    (λ c. search needs)
+    (λ c κs. search needs)
+    (λ c. search needs)
+    (λ c. search needs)
     returns-2
     add-t15
     returns-3)

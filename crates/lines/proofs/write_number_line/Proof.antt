@@ -1,13 +1,10 @@
+-- `lines::write_number_line`: the key, the number and the line feed are written one behind the other.
 use mathlib.Core.Path.{_∙_}
 use native.Mathlib.Omega.{arith}
 use lib.ListN.{length-set}
 use Rattle.lines.proofs.Writes as writes
 use Rattle.lines.proofs.write_number_line.Statement.{statement}
 use Rattle.lines.proofs.write_number_line.Tie as tie
-use Rattle.lines.proofs.write_number_line.Reads as reads
-use Rattle.lines.proofs.write_number_line.Lts as lts
-use Rattle.decimal.proofs.write_u32.Reads as write-u32-reads
-use Rattle.lines.proofs.write_bytes.Reads as write-bytes-reads
 
 write-bytes-requires : tie.Need-write-bytes-requires
 write-bytes-requires c κs = omega (arith, writes.number-line-length (c .before .before .before .args .key .now) (c .before .before .before .args .v))

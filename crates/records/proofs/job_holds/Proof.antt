@@ -1,35 +1,24 @@
+-- `records::job_holds`: each test rules out one way in which a job cannot hold the values; past all of them it can.
 use borrow.Author.Needs.{needs}
 use Rattle.records.proofs.Writing as writing
 use Rattle.records.proofs.job_holds.Statement.{statement}
 use Rattle.records.proofs.job_holds.Tie as tie
-use Rattle.records.proofs.job_holds.Reads as reads
-use Rattle.records.proofs.job_holds.Lts as lts
-use Rattle.decimal.proofs.each_small.Reads as each-small-reads
 
--- src/lib.rt:243:9
 returns : tie.Need-returns
 returns c = writing.no-coeffs (c .before .before .args .modulus) (c .before .before .args .coeffs .now) (c .before .before .args .weights .now) (c .if1 .taken)
 
--- src/lib.rt:246:9
 returns-2 : tie.Need-returns-2
 returns-2 c = writing.many-coeffs (c .before .before .before .args .modulus) (c .before .before .before .args .coeffs .now) (c .before .before .before .args .weights .now) (c .if2 .taken)
 
--- src/lib.rt:249:9
 returns-3 : tie.Need-returns-3
 returns-3 c = writing.no-weights (c .before .before .before .before .args .modulus) (c .before .before .before .before .args .coeffs .now) (c .before .before .before .before .args .weights .now) (c .if3 .taken)
 
--- src/lib.rt:252:9
 returns-4 : tie.Need-returns-4
 returns-4 c = writing.many-weights (c .before .before .before .before .before .args .modulus) (c .before .before .before .before .before .args .coeffs .now) (c .before .before .before .before .before .args .weights .now) (c .if4 .taken)
 
--- src/lib.rt:254:5
-each-small-requires : tie.Need-each-small-requires
-each-small-requires c κs = search needs
-
--- src/lib.rt:239:1
 returns-5 : tie.Need-returns-5
 returns-5 c = writing.each-weight (c .before .before .before .before .before .before .args .modulus) (c .before .before .before .before .before .before .args .coeffs .now) (c .before .before .before .before .before .before .args .weights .now) (c .before .before .before .before .before .before .fits .modulus) (c .before .before .before .before .before .shared-slice-known .given) (c .before .before .before .before .if1 .left) (c .before .before .before .if2 .left) (c .before .before .if3 .left) (c .before .if4 .left) _ (c .each-small .ensures)
 
 pub job-holds-spec : {M : Type 1} → statement M
 job-holds-spec =
-    tie.close (tie.spec returns returns-2 returns-3 returns-4 each-small-requires returns-5)
+    tie.close (tie.spec returns returns-2 returns-3 returns-4 (λ c κs. search needs) returns-5)

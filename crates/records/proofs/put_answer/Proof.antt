@@ -1,3 +1,4 @@
+-- `records::put_answer`: the head and two lines are written one behind the other; the room for all is room for each.
 use native.Mathlib.Omega.{arith}
 use lib.ListN.{length}
 use borrow.Author.Needs.{needs}
@@ -8,36 +9,19 @@ use Rattle.records.specs.Records.{answer-text}
 use Rattle.records.proofs.Writing as writing
 use Rattle.records.proofs.put_answer.Statement.{statement}
 use Rattle.records.proofs.put_answer.Tie as tie
-use Rattle.records.proofs.put_answer.Reads as reads
-use Rattle.records.proofs.put_answer.Lts as lts
-use Rattle.lines.proofs.write_numbers_line.Reads as write-numbers-line-reads
-use Rattle.lines.proofs.write_head.Reads as write-head-reads
-use Rattle.lines.proofs.write_mark.Reads as write-mark-reads
 
--- src/lib.rt:332:9
 write-head-requires : tie.Need-write-head-requires
 unfolding answer-text
 write-head-requires c κs = (omega (arith, c .before .before .before .pre .0 .coeffs .at-most), writing.room-one (head-text (c .before .before .before .args .modulus) (length (c .before .before .before .args .coeffs .now))) (mark-text (c .before .before .before .args .simple)) (list-line decimal (bytes "coeffs=") (c .before .before .before .args .coeffs .now)) (c .before .before .before .args .out .now) (c .before .before .before .pre .1))
 
--- src/lib.rt:333:9
 write-mark-requires : tie.Need-write-mark-requires
 unfolding answer-text bytes
 write-mark-requires c κs = writing.room-two (head-text (c .before .before .before .before .before .before .before .args .modulus) (length (c .before .before .before .before .before .before .before .args .coeffs .now))) (mark-text (c .before .before .before .before .before .before .before .args .simple)) (list-line decimal (bytes "coeffs=") (c .before .before .before .before .before .before .before .args .coeffs .now)) (c .before .before .before .before .before .before .before .args .out .now) (c .before .before .before .before .before .before .before .pre .1) _ _ (c .before .before .before .write-head .ensures) (c .before .before .before .write-head .kept .0)
 
--- src/lib.rt:334:39
-slice-aggregate-write-numbers-line : tie.Need-slice-aggregate-write-numbers-line
-slice-aggregate-write-numbers-line c = search needs
-
--- src/lib.rt:334:5
 write-numbers-line-requires : tie.Need-write-numbers-line-requires
 unfolding answer-text bytes
 write-numbers-line-requires c κs = writing.room-three (head-text (c .before .before .before .before .before .before .before .before .before .before .before .before .args .modulus) (length (c .before .before .before .before .before .before .before .before .before .before .before .before .args .coeffs .now))) (mark-text (c .before .before .before .before .before .before .before .before .before .before .before .before .args .simple)) (list-line decimal (bytes "coeffs=") (c .before .before .before .before .before .before .before .before .before .before .before .before .args .coeffs .now)) (c .before .before .before .before .before .before .before .before .before .before .before .before .args .out .now) (c .before .before .before .before .before .before .before .before .before .before .before .before .pre .1) _ _ (c .before .before .before .before .before .before .before .before .write-head .ensures) (c .before .before .before .before .before .before .before .before .write-head .kept .0) _ _ (c .before .before .before .before .write-mark .ensures) (c .before .before .before .before .write-mark .kept .0)
 
--- src/lib.rt:328:1
-same-length : tie.Need-same-length
-same-length c = search needs
-
--- src/lib.rt:328:1
 returns : tie.Need-returns
 unfolding answer-text bytes
 returns c = wrote-then (c .before .before .before .before .before .before .before .before .before .before .before .write-head .ensures) (wrote-then (c .before .before .before .before .before .before .before .write-mark .ensures) (c .before .before .write-numbers-line .ensures))
@@ -48,7 +32,7 @@ put-answer-spec =
     (tie.spec
     write-head-requires
     write-mark-requires
-    slice-aggregate-write-numbers-line
+    (λ c. search needs)
     write-numbers-line-requires
-    same-length
+    (λ c. search needs)
     returns)

@@ -1,3 +1,4 @@
+-- `records::put_job`: the head and two lines are written one behind the other; the room for all is room for each.
 use native.Mathlib.Omega.{arith}
 use lib.ListN.{length}
 use borrow.Author.Needs.{needs}
@@ -8,40 +9,19 @@ use Rattle.records.specs.Records.{job-text}
 use Rattle.records.proofs.Writing as writing
 use Rattle.records.proofs.put_job.Statement.{statement}
 use Rattle.records.proofs.put_job.Tie as tie
-use Rattle.records.proofs.put_job.Reads as reads
-use Rattle.records.proofs.put_job.Lts as lts
-use Rattle.lines.proofs.write_numbers_line.Reads as write-numbers-line-reads
-use Rattle.lines.proofs.write_signeds_line.Reads as write-signeds-line-reads
-use Rattle.lines.proofs.write_head.Reads as write-head-reads
 
--- src/lib.rt:270:9
 write-head-requires : tie.Need-write-head-requires
 unfolding job-text
 write-head-requires c κs = (omega (arith, c .before .before .before .pre .0 .coeffs .at-most), writing.room-one (head-text (c .before .before .before .args .modulus) (length (c .before .before .before .args .coeffs .now))) (list-line decimal (bytes "coeffs=") (c .before .before .before .args .coeffs .now)) (list-line signed (bytes "weights=") (c .before .before .before .args .weights .now)) (c .before .before .before .args .out .now) (c .before .before .before .pre .1))
 
--- src/lib.rt:271:47
-slice-aggregate-write-numbers-line : tie.Need-slice-aggregate-write-numbers-line
-slice-aggregate-write-numbers-line c = search needs
-
--- src/lib.rt:271:9
 write-numbers-line-requires : tie.Need-write-numbers-line-requires
 unfolding job-text bytes
 write-numbers-line-requires c κs = writing.room-two (head-text (c .before .before .before .before .before .before .before .before .args .modulus) (length (c .before .before .before .before .before .before .before .before .args .coeffs .now))) (list-line decimal (bytes "coeffs=") (c .before .before .before .before .before .before .before .before .args .coeffs .now)) (list-line signed (bytes "weights=") (c .before .before .before .before .before .before .before .before .args .weights .now)) (c .before .before .before .before .before .before .before .before .args .out .now) (c .before .before .before .before .before .before .before .before .pre .1) _ _ (c .before .before .before .before .write-head .ensures) (c .before .before .before .before .write-head .kept .0)
 
--- src/lib.rt:272:39
-slice-aggregate-write-signeds-line : tie.Need-slice-aggregate-write-signeds-line
-slice-aggregate-write-signeds-line c = search needs
-
--- src/lib.rt:272:5
 write-signeds-line-requires : tie.Need-write-signeds-line-requires
 unfolding job-text bytes
 write-signeds-line-requires c κs = (c .before .before .before .before .before .before .before .before .before .before .before .before .before .pre .0 .weights .each, writing.room-three (head-text (c .before .before .before .before .before .before .before .before .before .before .before .before .before .args .modulus) (length (c .before .before .before .before .before .before .before .before .before .before .before .before .before .args .coeffs .now))) (list-line decimal (bytes "coeffs=") (c .before .before .before .before .before .before .before .before .before .before .before .before .before .args .coeffs .now)) (list-line signed (bytes "weights=") (c .before .before .before .before .before .before .before .before .before .before .before .before .before .args .weights .now)) (c .before .before .before .before .before .before .before .before .before .before .before .before .before .args .out .now) (c .before .before .before .before .before .before .before .before .before .before .before .before .before .pre .1) _ _ (c .before .before .before .before .before .before .before .before .before .write-head .ensures) (c .before .before .before .before .before .before .before .before .before .write-head .kept .0) _ _ (c .before .before .before .before .write-numbers-line .ensures) (c .before .before .before .before .write-numbers-line .kept .0))
 
--- src/lib.rt:266:1
-same-length : tie.Need-same-length
-same-length c = search needs
-
--- src/lib.rt:266:1
 returns : tie.Need-returns
 unfolding job-text bytes
 returns c = wrote-then (c .before .before .before .before .before .before .before .before .before .before .before .before .write-head .ensures) (wrote-then (c .before .before .before .before .before .before .before .write-numbers-line .ensures) (c .before .before .write-signeds-line .ensures))
@@ -51,9 +31,9 @@ put-job-spec =
     tie.close
     (tie.spec
     write-head-requires
-    slice-aggregate-write-numbers-line
+    (λ c. search needs)
     write-numbers-line-requires
-    slice-aggregate-write-signeds-line
+    (λ c. search needs)
     write-signeds-line-requires
-    same-length
+    (λ c. search needs)
     returns)

@@ -1,3 +1,4 @@
+-- `records::write_answer`: each return is one row of the promise: values that an answer cannot hold, no room, or the record.
 use native.Mathlib.Omega.{arith}
 use borrow.Author.Needs.{needs}
 use Rattle.records.specs.Records.{AnswerHolds, answer, answer-text}
@@ -5,40 +6,26 @@ use Rattle.records.proofs.Writing as writing
 use Rattle.records.proofs.Outcomes as outcomes
 use Rattle.records.proofs.write_answer.Statement.{statement}
 use Rattle.records.proofs.write_answer.Tie as tie
-use Rattle.records.proofs.write_answer.Reads as reads
-use Rattle.records.proofs.write_answer.Lts as lts
-use Rattle.records.proofs.answer_len.Reads as answer-len-reads
-use Rattle.records.proofs.put_answer.Reads as put-answer-reads
 
 -- past the two tests an answer can hold the values
 held : (c : tie.Else2) → AnswerHolds (answer (c .before .before .before .before .args .modulus) (c .before .before .before .before .args .simple) (c .before .before .before .before .args .coeffs .now))
 held c = writing.answer-held (c .before .before .before .before .args .modulus) (c .before .before .before .before .args .simple) (c .before .before .before .before .args .coeffs .now) (c .before .before .before .before .fits .modulus) (c .before .before .before .shared-slice-known .given) (c .before .if1 .left) (c .if2 .left)
 
--- src/lib.rt:334:9
 returns : tie.Need-returns
 returns c = outcomes.not-held AnswerHolds answer-text (answer (c .before .before .before .args .modulus) (c .before .before .before .args .simple) (c .before .before .before .args .coeffs .now)) (c .before .before .before .args .out .now) (writing.answer-none (c .before .before .before .args .modulus) (c .before .before .before .args .simple) (c .before .before .before .args .coeffs .now) (c .if1 .taken))
 
--- src/lib.rt:337:9
 returns-2 : tie.Need-returns-2
 returns-2 c = outcomes.not-held AnswerHolds answer-text (answer (c .before .before .before .before .args .modulus) (c .before .before .before .before .args .simple) (c .before .before .before .before .args .coeffs .now)) (c .before .before .before .before .args .out .now) (writing.answer-many (c .before .before .before .before .args .modulus) (c .before .before .before .before .args .simple) (c .before .before .before .before .args .coeffs .now) (c .if2 .taken))
 
--- src/lib.rt:339:9
 answer-len-requires : tie.Need-answer-len-requires
 answer-len-requires c κs = held c
 
--- src/lib.rt:341:9
 returns-3 : tie.Need-returns-3
 returns-3 c = outcomes.no-room AnswerHolds answer-text (answer (c .before .before .before .before .before .before .args .modulus) (c .before .before .before .before .before .before .args .simple) (c .before .before .before .before .before .before .args .coeffs .now)) (c .before .before .before .before .before .before .args .out .now) (held (c .before .before)) _ (c .before .answer-len .ensures) (c .if3 .taken)
 
--- src/lib.rt:343:9
 put-answer-requires : tie.Need-put-answer-requires
 put-answer-requires c κs = (held (c .before .before .before), omega (arith, c .before .before .answer-len .ensures, c .before .if3 .left))
 
--- src/lib.rt:330:1
-same-length : tie.Need-same-length
-same-length c = search needs
-
--- src/lib.rt:330:1
 returns-4 : tie.Need-returns-4
 returns-4 c = outcomes.written AnswerHolds answer-text (answer (c .before .before .before .before .before .before .before .before .before .before .args .modulus) (c .before .before .before .before .before .before .before .before .before .before .args .simple) (c .before .before .before .before .before .before .before .before .before .before .args .coeffs .now)) (c .before .before .before .before .before .before .before .before .before .before .args .out .now) (held (c .before .before .before .before .before .before)) _ (c .before .before .before .before .before .answer-len .ensures) _ _ (c .before .before .before .before .if3 .left) (c .before .before .put-answer .ensures)
 
@@ -51,5 +38,5 @@ write-answer-spec =
     answer-len-requires
     returns-3
     put-answer-requires
-    same-length
+    (λ c. search needs)
     returns-4)
