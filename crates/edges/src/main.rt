@@ -1,0 +1,229 @@
+// Document 01's cases A to L and the calls at its edges, through the resolvent entry. Each line tells what came back: the code, N,
+// the mark and the first words of output.
+use resolvents::Outcome;
+use weights::Weights;
+
+fn say(text: &[u8]) {
+    io::write_all(1, text);
+}
+
+fn number(n: u32) {
+    io::print_decimal(1, n as u64);
+}
+
+// The first n words, as far as there are so many, with commas between them.
+fn words(xs: &[u32], n: usize) {
+    let mut i: usize = 0;
+    while i < n {
+        if i >= xs.len() {
+            return;
+        }
+        if i > 0 {
+            say(b",");
+        }
+        number(xs[i]);
+        i += 1;
+    }
+}
+
+// The n coefficients; of many the first eight and the last.
+fn coefficients(out: &[u32], n: usize) {
+    if n == 0 {
+        return;
+    }
+    say(b", ");
+    if n <= 9 {
+        words(out, n);
+        return;
+    }
+    words(out, 8);
+    say(b",..,");
+    if n <= out.len() {
+        number(out[n - 1]);
+    }
+}
+
+fn told(name: &[u8], r: Outcome, out: &[u32]) {
+    say(name);
+    say(b": code ");
+    number(r.code);
+    say(b", N ");
+    io::print_decimal(1, r.count as u64);
+    if r.simple {
+        say(b", simple yes");
+    } else {
+        say(b", simple no");
+    }
+    coefficients(out, r.count);
+    say(b"\n");
+}
+
+fn list(len: usize, places: [i32; 6]) -> Weights {
+    Weights { places, len }
+}
+
+// A call with as much room as any call needs.
+fn job(name: &[u8], p: u32, f: &[u32], l: Weights) {
+    let mut out = [7u32; 1024];
+    let mut work = [7u32; 12300];
+    let r = resolvents::resolvent(p, f, l, &mut out, &mut work);
+    told(name, r, &out);
+}
+
+// A call with the room that is lent, and what it leaves there.
+fn lent(name: &[u8], l: Weights, out: &mut [u32], work: &mut [u32]) {
+    let f = [254u32, 2];
+    let r = resolvents::resolvent(257, &f, l, out, work);
+    told(name, r, out);
+    say(b"  output ");
+    words(out, out.len());
+    say(b"\n  work ");
+    words(work, work.len());
+    say(b"\n");
+}
+
+fn cases() {
+    job(b"A", 257, &[254], list(1, [5, 0, 0, 0, 0, 0]));
+    job(b"B", 257, &[254, 2], list(2, [1, 1, 0, 0, 0, 0]));
+    job(b"C", 257, &[254, 2], list(2, [1, 2, 0, 0, 0, 0]));
+    job(b"D", 257, &[254, 2], list(2, [1, -1, 0, 0, 0, 0]));
+    job(b"E", 257, &[255, 1], list(2, [1, -1, 0, 0, 0, 0]));
+    job(b"F", 257, &[0, 254], list(2, [1, -1, 0, 0, 0, 0]));
+    job(b"G", 257, &[0, 0, 256], list(2, [1, 1, 0, 0, 0, 0]));
+    job(b"H", 257, &[251, 11, 251], list(2, [1, 1, 0, 0, 0, 0]));
+    job(b"I", 257, &[251, 11, 251], list(3, [1, 1, 1, 0, 0, 0]));
+    job(b"J", 257, &[251, 11, 251], list(2, [2, 1, 0, 0, 0, 0]));
+    job(b"K", 257, &[0, 0, 0, 256], list(2, [1, 1, 0, 0, 0, 0]));
+    job(b"L", 257, &[0, 0, 0, 1], list(2, [1, 1, 0, 0, 0, 0]));
+}
+
+// x^4 - 1 with the weights 1,1, at moduli around the least and the largest.
+fn moduli() {
+    let f = [0u32, 0, 0, 256];
+    let pair = list(2, [1, 1, 0, 0, 0, 0]);
+    job(b"251", 251, &f, pair);
+    job(b"257", 257, &f, pair);
+    job(b"259", 259, &f, pair);
+    job(b"2147483647", 2147483647, &f, pair);
+    job(b"2147483648", 2147483648, &f, pair);
+}
+
+// Numbers of placements around 1,024 and around p.
+fn numbers() {
+    let eight = [1u32, 2, 3, 4, 5, 6, 7, 8];
+    let ten = [1u32, 2, 3, 4, 5, 6, 7, 8, 9, 10];
+    let eleven = [1u32, 2, 3, 4, 5, 6, 7, 8, 9, 10, 11];
+    let twelve = [1u32, 2, 3, 4, 5, 6, 7, 8, 9, 10, 11, 12];
+    let six_ones = list(6, [1, 1, 1, 1, 1, 1]);
+    let one_two_three = list(3, [1, 2, 3, 0, 0, 0]);
+    job(b"924 at 257", 257, &twelve, six_ones);
+    job(b"924 at 1009", 1009, &twelve, six_ones);
+    job(b"990 at 1009", 1009, &eleven, one_two_three);
+    job(b"1320 at 1009", 1009, &twelve, one_two_three);
+    job(b"1320 at 257", 257, &twelve, one_two_three);
+    job(b"252 at 257", 257, &ten, list(5, [1, 1, 1, 1, 1, 0]));
+    job(b"336 at 257", 257, &eight, one_two_three);
+    job(
+        b"840 at 2147483647",
+        2147483647,
+        &eight,
+        list(4, [16, -16, 1, 1, 0, 0]),
+    );
+}
+
+// Degrees, counts and weights at their bounds.
+fn bounds() {
+    let none = [0u32; 0];
+    let two = [254u32, 2];
+    let seven = [1u32; 7];
+    let thirteen = [1u32; 13];
+    let pair = list(2, [1, 1, 0, 0, 0, 0]);
+    job(b"n = 0", 257, &none, pair);
+    job(b"n = 13", 257, &thirteen, pair);
+    job(b"r = 0", 257, &two, list(0, [1, 1, 1, 1, 1, 1]));
+    job(b"r = 7", 257, &seven, list(7, [1, 1, 1, 1, 1, 1]));
+    job(b"r = 3 above n = 2", 257, &two, list(3, [1, 1, 1, 0, 0, 0]));
+    job(
+        b"r = n = 6",
+        257,
+        &[1, 2, 3, 4, 5, 6],
+        list(6, [1, 1, 1, 1, 1, 1]),
+    );
+    job(b"weight 0", 257, &two, list(1, [0, 0, 0, 0, 0, 0]));
+    job(b"weight 16", 257, &two, list(1, [16, 0, 0, 0, 0, 0]));
+    job(b"weight 17", 257, &two, list(1, [17, 0, 0, 0, 0, 0]));
+    job(b"weight -16", 257, &two, list(1, [-16, 0, 0, 0, 0, 0]));
+    job(b"weight -17", 257, &two, list(1, [-17, 0, 0, 0, 0, 0]));
+    job(b"coefficient 256", 257, &[256, 2], pair);
+    job(b"coefficient 257", 257, &[254, 257], pair);
+}
+
+// Calls that break several rules: the first in document 01's order tells.
+fn orders() {
+    let two = [254u32, 2];
+    let many_large = [4294967295u32; 13];
+    let twelve = [0u32; 12];
+    let empty = list(0, [0, 0, 0, 0, 0, 0]);
+    let zero = list(1, [0, 0, 0, 0, 0, 0]);
+    job(b"251, weight 0", 251, &two, zero);
+    job(b"n = 13, large coefficients", 257, &many_large, empty);
+    job(b"coefficient 257, no weights", 257, &[257], empty);
+    job(b"r = 7 above n = 2", 257, &two, list(7, [0, 0, 0, 0, 0, 0]));
+    job(
+        b"r = 3 above n = 2, weights 0",
+        257,
+        &two,
+        list(3, [0, 0, 0, 0, 0, 0]),
+    );
+    job(
+        b"1320 placements, a weight 0",
+        257,
+        &twelve,
+        list(3, [1, 2, 0, 0, 0, 0]),
+    );
+}
+
+// Places after the r-th count for nothing.
+fn places() {
+    job(b"zeros behind", 257, &[254, 2], list(2, [1, 2, 0, 0, 0, 0]));
+    job(
+        b"others behind",
+        257,
+        &[254, 2],
+        list(2, [1, 2, 99, 0, -7, 2147483647]),
+    );
+}
+
+// Output and work room: more than enough, exactly enough, one word fewer of each, and neither.
+fn room() {
+    let pair = list(2, [1, 1, 0, 0, 0, 0]);
+    let apart = list(2, [1, 2, 0, 0, 0, 0]);
+    let mut out = [7u32, 8, 9, 10];
+    let mut work = [7u32; 27];
+    let mut two = [7u32; 2];
+    let mut enough = [7u32; 36];
+    let mut one = [7u32; 1];
+    let mut fewer = [7u32; 35];
+    lent(b"words to spare", pair, &mut out, &mut work);
+    lent(b"one output word fewer", apart, &mut one, &mut enough);
+    lent(b"one work word fewer", apart, &mut two, &mut fewer);
+    lent(b"one fewer of each", apart, &mut one, &mut fewer);
+    lent(b"exactly enough", apart, &mut two, &mut enough);
+}
+
+fn main() {
+    say(b"-- cases\n");
+    cases();
+    say(b"-- moduli\n");
+    moduli();
+    say(b"-- numbers of placements\n");
+    numbers();
+    say(b"-- bounds\n");
+    bounds();
+    say(b"-- the first rule broken\n");
+    orders();
+    say(b"-- places after the r-th\n");
+    places();
+    say(b"-- room\n");
+    room();
+}
