@@ -190,6 +190,10 @@ module _ {t : List ℕ} {lent l : List ℕ × List ℤ} {r : JobRead} (p : Reads
   pub read-job-exactly : (r .code ≡ 0) ↔ (JobRoom lent × ((j : Job) × JobHolds j × (t ≡ job-text j)))
   read-job-exactly = succeeds-exactly jobs JobRoom no-job job-read job-filled job-room-decided (λ r. r .code) (λ n. refl) (λ v. refl) p
 
+  -- what is handed out are the values of the job that the text is
+  pub read-job-values : r .code ≡ 0 → JobHolds (job-values r l) × (t ≡ job-text (job-values r l))
+  read-job-values z = values-are jobs JobRoom no-job job-read job-filled job-room-decided (λ r. r .code) (λ n. refl) (λ v. refl) job-values job-values-read p z
+
   pub job-writes-back : {out out′ : List ℕ} {w : Written} → r .code ≡ 0 → WritesJob (job-values r l) out w out′ → length t ≤ length out →
       (w ≡ record { code = 0; len = length t }) × (out′ ≡ over t out)
   job-writes-back z w h = writes-back jobs JobRoom no-job job-read job-filled job-room-decided (λ r. r .code) (λ n. refl) (λ v. refl) job-values job-values-read p z w h
@@ -223,6 +227,9 @@ module _ {t lent l : List ℕ} {r : AnswerRead} (p : ReadsAnswer t lent r l) whe
 
   pub read-answer-exactly : (r .code ≡ 0) ↔ (AnswerRoom lent × ((a : Answer) × AnswerHolds a × (t ≡ answer-text a)))
   read-answer-exactly = succeeds-exactly answers AnswerRoom no-answer answer-read answer-filled answer-room-decided (λ r. r .code) (λ n. refl) (λ v. refl) p
+
+  pub read-answer-values : r .code ≡ 0 → AnswerHolds (answer-values r l) × (t ≡ answer-text (answer-values r l))
+  read-answer-values z = values-are answers AnswerRoom no-answer answer-read answer-filled answer-room-decided (λ r. r .code) (λ n. refl) (λ v. refl) answer-values answer-values-read p z
 
   pub answer-writes-back : {out out′ : List ℕ} {w : Written} → r .code ≡ 0 → WritesAnswer (answer-values r l) out w out′ → length t ≤ length out →
       (w ≡ record { code = 0; len = length t }) × (out′ ≡ over t out)
