@@ -176,6 +176,10 @@ module _ {X : Type 0} {Holds : X → Type 0} {text : X → List ℕ} {scan : Lis
 pub job-one-spelling : (j k : Job) → JobHolds j → JobHolds k → job-text j ≡ job-text k → j ≡ k
 job-one-spelling = one-spelling jobs
 
+-- whether a text is a job is decided
+pub is-job : (t : List ℕ) → Dec ((j : Job) × JobHolds j × (t ≡ job-text j))
+is-job = is-decided jobs
+
 -- what a job reader has handed out: the modulus, and the fronts of the two slices
 abbrev pub job-values : JobRead → List ℕ × List ℤ → Job
 job-values r lent = job (r .modulus) (take (r .degree) (lent .0)) (take (r .weights) (lent .1))
