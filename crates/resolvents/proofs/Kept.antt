@@ -1,15 +1,11 @@
 -- How the entry keeps its promise: a number that is not 0 is handed back with nothing touched; else the call is accepted, which
 -- is all that the engine and the mark ask, and what they leave is what the promise says.
-use mathlib.Core.Path.{_≡_, refl, sym, ap, _∙_}
+use mathlib.Core.Path.{_≡_, refl, sym, _∙_}
 use mathlib.Core.Bool.{Bool, true, false}
 use mathlib.Core.List.{List}
 use mathlib.Core.Logic.{_↔_}
-use Prim.Native.Nat.{ℕ, _+_, _*_, _≤_, _<_}
-use native.Mathlib.Omega.{arith}
-use lib.ListN.{length, getD, take, drop, replicate}
-use lib.IntN.{pos, natAbs}
-use Rattle.residues.specs.Prime.{Prime}
-use Rattle.residues.specs.Residues.{Words}
+use Prim.Native.Nat.{ℕ, _+_, _*_, _≤_}
+use lib.ListN.{length}
 use Rattle.polynomials.specs.Divisors.{Simple}
 use Rattle.definition.specs.Refusals.{Call, weights, N, room, refusal, Accepted}
 use Rattle.definition.specs.Table.{not-refused}

@@ -1,10 +1,8 @@
 -- The number of each row, from the facts that the code has where it returns: its test holds, and no test before it does.
-use mathlib.Core.Path.{_≡_, refl, sym, ap, _∙_}
+use mathlib.Core.Path.{_≡_, refl, sym, _∙_}
 use mathlib.Core.Bool.{Bool, true, false, not, _||_}
 use mathlib.Core.List.{List, [], _∷_}
 use Prim.Native.Nat.{ℕ, suc, _+_, _*_, _≤_, _<_, _%_}
-use native.Mathlib.Nat.{pos-of-ne-zero}
-use native.Mathlib.Omega.{arith}
 use lib.Dec.{leb, ltb, eqb}
 use borrow.Author.Tests.{lt-ltb, le-ltb, le-leb, lt-leb, eq-eqb, ne-eqb}
 use lib.ListN.{length, getD}
@@ -12,7 +10,7 @@ use lib.IntN.{ℤ, pos}
 use Rattle.residues.specs.Prime.{Prime}
 use Rattle.residues.specs.Trial.{isPrime, isPrime-iff}
 use Rattle.definition.specs.Refusals.{some-below, bad-weight, first, modulus-checks, polynomial-checks, weight-checks, room-checks, divisor-checks}
-use Rattle.definition.specs.Table.{first-nil, first-holds, first-passes, or-none, or-right, not-none, modulus-good}
+use Rattle.definition.specs.Table.{first-nil, first-holds, first-passes, or-none, or-right, modulus-good}
 
 or-left : {a : Bool} (b : Bool) → a ≡ true → (a || b) ≡ true
 or-left b e = rw e

@@ -1,7 +1,6 @@
 -- What is known of a call when its checks are made: the number of the first row that applies and, where none does, N and the
 -- product of m!.
 use mathlib.Core.Path.{_≡_}
-use Prim.Native.Nat.{ℕ}
 use Rattle.algebra.specs.Integer.{ℤ-eq}
 use Rattle.placements.specs.Multiplicity.{factorials}
 use Rattle.definition.specs.Refusals.{Call, weights, N, refusal}

@@ -1,3 +1,6 @@
 pub mod Promise
 pub mod Judged
 pub mod Cleared
+pub mod Decided
+pub mod Demands
+pub mod Wrong

@@ -1,10 +1,10 @@
 -- What the resolvent entry promises of every call (document 01: "A job in numbers", "The numbers we send back").
 use mathlib.Core.Path.{_≡_}
-use mathlib.Core.Bool.{Bool, true, false}
+use mathlib.Core.Bool.{true, false}
 use mathlib.Core.List.{List}
 use mathlib.Core.Logic.{_↔_}
 use Prim.Native.Nat.{ℕ}
-use lib.ListN.{length, take, drop, replicate}
+use lib.ListN.{take, drop, replicate}
 use Rattle.residues.specs.Residues.{residues, Words}
 use Rattle.polynomials.specs.Divisors.{Simple}
 use Rattle.definition.specs.Definition.{Resolvent}

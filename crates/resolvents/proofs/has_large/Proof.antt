@@ -1,16 +1,10 @@
 -- `resolvents::has_large` meets its contract: every coefficient before the counter is below p.
-use mathlib.Core.Path.{_≡_, sym, ap, _∙_}
-use mathlib.Core.Bool.{true, false}
-use Prim.Native.Nat.{ℕ, suc, _+_, _-_, _%_, _≤_}
-use native.Mathlib.Numerals.{add-one}
+use Prim.Native.Nat.{_-_}
 use native.Mathlib.Omega.{arith}
-use borrow.Author.Needs.{needs}
-use borrow.Author.Tests.{le-leb, lt-leb, eq-eqb, ne-eqb}
-use lib.Dec.{leb, eqb}
+use borrow.Author.Tests.{le-leb, lt-leb}
+use lib.Dec.{leb}
 use lib.ListN.{length, getD}
 use Rattle.resolvents.proofs.Search.{Sought, sought-none, sought-more, sought-found, sought-all}
-use Rattle.resolvents.proofs.Numbers.{low-modulus, high-modulus, composite-modulus, prime-modulus, no-degree, high-degree, large-coefficient, good-polynomial}
-use Rattle.resolvents.proofs.Numbers.{no-weights, many-weights, above-degree, wrong-weight, good-weights, many-placements, not-below, short-output, short-work, good-room, zero-product, zero-number, good-divisors}
 use Rattle.resolvents.proofs.has_large.Statement.{statement}
 use Rattle.resolvents.proofs.has_large.Tie as tie
 

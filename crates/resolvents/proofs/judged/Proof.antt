@@ -1,6 +1,5 @@
 -- `resolvents::judged` meets its contract: each group of checks gives the call's number where those before give none.
-use mathlib.Core.Path.{_≡_, sym, _∙_}
-use native.Mathlib.Nat.{le-of-lt}
+use mathlib.Core.Path.{sym, _∙_}
 use native.Mathlib.Omega.{arith}
 use borrow.Author.Needs.{needs}
 use Rattle.residues.specs.Prime.{prime-positive}

@@ -1,16 +1,7 @@
 -- `resolvents::polynomial_refusal` meets its contract: each return is a row of the table.
-use mathlib.Core.Path.{_≡_, sym, ap, _∙_}
-use mathlib.Core.Bool.{true, false}
-use Prim.Native.Nat.{ℕ, suc, _+_, _-_, _%_, _≤_}
-use native.Mathlib.Numerals.{add-one}
-use native.Mathlib.Omega.{arith}
+use mathlib.Core.Path.{sym, _∙_}
 use borrow.Author.Needs.{needs}
-use borrow.Author.Tests.{le-leb, lt-leb, eq-eqb, ne-eqb}
-use lib.Dec.{leb, eqb}
-use lib.ListN.{length, getD}
-use Rattle.resolvents.proofs.Search.{Sought, sought-none, sought-more, sought-found, sought-all}
-use Rattle.resolvents.proofs.Numbers.{low-modulus, high-modulus, composite-modulus, prime-modulus, no-degree, high-degree, large-coefficient, good-polynomial}
-use Rattle.resolvents.proofs.Numbers.{no-weights, many-weights, above-degree, wrong-weight, good-weights, many-placements, not-below, short-output, short-work, good-room, zero-product, zero-number, good-divisors}
+use Rattle.resolvents.proofs.Numbers.{no-degree, high-degree, large-coefficient, good-polynomial}
 use Rattle.resolvents.proofs.polynomial_refusal.Statement.{statement}
 use Rattle.resolvents.proofs.polynomial_refusal.Tie as tie
 

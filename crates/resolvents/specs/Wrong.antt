@@ -1,0 +1,88 @@
+-- Entries that break the promise (document 01, "What a reader of the promises may rely on"). Each is refuted at named cases of
+-- the table A to L, where every exit that the promise allows has the row's numbers.
+use mathlib.Core.Path.{_≡_, refl, sym, ap, _∙_}
+use mathlib.Core.Bool.{Bool, true, false}
+use mathlib.Core.List.{List, [], _∷_, List·Memᴰ, List·Memᴰ·head, List·Memᴰ·tail}
+use Prim.Native.Nat.{ℕ, zero, suc, _<_}
+use native.Mathlib.Nat as N
+use native.Mathlib.Omega.{arith}
+use lib.ListN.{length, getD, take, replicate, length-replicate}
+use lib.IntN.{ℤ, pos}
+use Rattle.algebra.specs.Integer.{ℤ-eq}
+use Rattle.placements.specs.Placements.{placements}
+use Rattle.polynomials.specs.Certificates.{bezout}
+use Rattle.definition.specs.Refusals.{Call, weights, room, Accepted}
+use Rattle.definition.specs.Cases.{Row, rows, call}
+use Rattle.resolvents.specs.Promise.{Exit, Promise}
+use Rattle.resolvents.specs.Demands.{Answers, case-numbers, success-exactly, count-placements}
+
+-- an entry that keeps the promise: what it leaves behind at each call
+abbrev Keeps : (Call → Exit) → Type 0
+Keeps entry = (c : Call) → Promise c (entry c)
+
+-- the cases by their place in the table: A is 0, B 1, C 2, D 3, E 4
+abbrev case : ℕ → Row
+case i = getD rows i (record { f = []; weights = []; resolvent = []; certificate = bezout [] [] })
+
+-- the case as a call with no word to spare, all words 1
+abbrev ask : ℕ → Call
+ask i = call (case i) [] (replicate (length (case i .resolvent)) 1) (replicate (room (length (case i .resolvent))) 1)
+
+in-table : {X : Type 0} (xs : List X) (d : X) (i : ℕ) → i < length xs → List·Memᴰ (getD xs i d) xs
+in-table [] d i h = absurd (omega arith)
+in-table (x ∷ xs) d zero h = List·Memᴰ·head refl
+in-table (x ∷ xs) d (suc i) h = List·Memᴰ·tail (in-table xs d i (omega arith))
+
+module _ (entry : Call → Exit) (keeps : Keeps entry) where
+  at : (i : ℕ) → i < 12 → Answers (case i) (entry (ask i))
+  unfolding rows
+  at i h = case-numbers (case i) (in-table rows _ i h) [] _ _ (N.le-of-eq (sym (length-replicate _ 1))) (N.le-of-eq (sym (length-replicate _ 1))) _ (keeps (ask i))
+
+  -- one that refuses everything: A is taken
+  pub refuses-everything : ((c : Call) → entry c .outcome .code ≡ 0 → ⊥) → ⊥
+  refuses-everything h = h (ask 0) (at 0 (omega arith) .code)
+
+  -- one fixed polynomial: A's is x + 242, B's x + 254
+  pub one-fixed-polynomial : (b : List ℕ) → ((c : Call) → entry c .outcome .code ≡ 0 → take (entry c .outcome .count) (entry c .output) ≡ b) → ⊥
+  unfolding rows
+  one-fixed-polynomial b h =
+      let a : 242 ∷ [] ≡ b = sym (at 0 (omega arith) .words) ∙ rw (at 0 (omega arith) .count) at (h (ask 0) (at 0 (omega arith) .code)) in
+      let b' : 254 ∷ [] ≡ b = sym (at 1 (omega arith) .words) ∙ rw (at 1 (omega arith) .count) at (h (ask 1) (at 1 (omega arith) .code)) in
+      let z : _≡_ {A = ℕ} 242 254 = ap (λ l. getD l 0 0) (a ∙ sym b') in
+      absurd (omega (arith, z))
+
+  -- code 0 with untouched output: A's word is 242, whatever stood there
+  pub untouched-output : ((c : Call) → entry c .outcome .code ≡ 0 → entry c .output ≡ c .output) → ⊥
+  unfolding rows
+  untouched-output h =
+      let z : _≡_ {A = ℕ} 1 242 = ap (λ l. getD l 0 0) (rw (h (ask 0) (at 0 (omega arith) .code)) at (at 0 (omega arith) .words)) in
+      absurd (omega (arith, z))
+
+  -- the first weight worked and copied for the others, so that the first weight and r tell the output: C and D have the weights
+  -- 1,2 and 1,-1
+  pub first-weight-copied : (g : ℕ → List ℕ → ℤ → ℕ → List ℕ) → ((c : Call) → take (entry c .outcome .count) (entry c .output) ≡ g (c .p) (c .f) (getD (c .places) 0 (pos 0)) (c .r)) → ⊥
+  unfolding rows
+  first-weight-copied g h =
+      let c : 248 ∷ 20 ∷ [] ≡ g 257 (254 ∷ 2 ∷ []) (pos 1) 2 = sym (at 2 (omega arith) .words) ∙ rw (at 2 (omega arith) .count) at (h (ask 2)) in
+      let d : 0 ∷ 256 ∷ [] ≡ g 257 (254 ∷ 2 ∷ []) (pos 1) 2 = sym (at 3 (omega arith) .words) ∙ rw (at 3 (omega arith) .count) at (h (ask 3)) in
+      let z : _≡_ {A = ℕ} 248 0 = ap (λ l. getD l 0 0) (c ∙ sym d) in
+      absurd (omega (arith, z))
+
+  -- a made-up N, not told by n and r alone: with n = r = 2, B has one placement and C two
+  pub made-up-number : (g : ℕ → ℕ → ℕ) → ((c : Call) → entry c .outcome .code ≡ 0 → entry c .outcome .count ≡ g (length (c .f)) (c .r)) → ⊥
+  unfolding rows
+  made-up-number g h =
+      let z : _≡_ {A = ℕ} 1 2 = sym (at 1 (omega arith) .count) ∙ h (ask 1) (at 1 (omega arith) .code) ∙ sym (h (ask 2) (at 2 (omega arith) .code)) ∙ at 2 (omega arith) .count in
+      absurd (omega (arith, z))
+
+  -- one mark for all: A is simple, E is not
+  pub one-fixed-mark : (m : Bool) → ((c : Call) → entry c .outcome .code ≡ 0 → entry c .outcome .simple ≡ m) → ⊥
+  unfolding rows
+  one-fixed-mark m h =
+      let z : true ≡ false = sym (at 0 (omega arith) .simple) ∙ h (ask 0) (at 0 (omega arith) .code) ∙ sym (h (ask 4) (at 4 (omega arith) .code)) ∙ at 4 (omega arith) .simple in
+      let y : _≡_ {A = ℕ} 0 1 = cc in
+      absurd (omega arith)
+
+-- and a made-up N at any call: a success counts the placements
+pub made-up-number-anywhere : (c : Call) (e : Exit) → Accepted c → (e .outcome .count ≡ length (placements ℤ-eq (length (c .f)) (weights c)) → ⊥) → Promise c e → ⊥
+made-up-number-anywhere c e a wrong q = wrong (count-placements c e q (success-exactly c e q .1 a))
