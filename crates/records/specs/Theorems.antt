@@ -176,6 +176,10 @@ module _ {X : Type 0} {Holds : X → Type 0} {text : X → List ℕ} {scan : Lis
 pub job-one-spelling : (j k : Job) → JobHolds j → JobHolds k → job-text j ≡ job-text k → j ≡ k
 job-one-spelling = one-spelling jobs
 
+-- whether a text is a job is decided
+pub is-job : (t : List ℕ) → Dec ((j : Job) × JobHolds j × (t ≡ job-text j))
+is-job = is-decided jobs
+
 -- what a job reader has handed out: the modulus, and the fronts of the two slices
 abbrev pub job-values : JobRead → List ℕ × List ℤ → Job
 job-values r lent = job (r .modulus) (take (r .degree) (lent .0)) (take (r .weights) (lent .1))
@@ -189,6 +193,10 @@ module _ {t : List ℕ} {lent l : List ℕ × List ℤ} {r : JobRead} (p : Reads
 
   pub read-job-exactly : (r .code ≡ 0) ↔ (JobRoom lent × ((j : Job) × JobHolds j × (t ≡ job-text j)))
   read-job-exactly = succeeds-exactly jobs JobRoom no-job job-read job-filled job-room-decided (λ r. r .code) (λ n. refl) (λ v. refl) p
+
+  -- what is handed out are the values of the job that the text is
+  pub read-job-values : r .code ≡ 0 → JobHolds (job-values r l) × (t ≡ job-text (job-values r l))
+  read-job-values z = values-are jobs JobRoom no-job job-read job-filled job-room-decided (λ r. r .code) (λ n. refl) (λ v. refl) job-values job-values-read p z
 
   pub job-writes-back : {out out′ : List ℕ} {w : Written} → r .code ≡ 0 → WritesJob (job-values r l) out w out′ → length t ≤ length out →
       (w ≡ record { code = 0; len = length t }) × (out′ ≡ over t out)
@@ -223,6 +231,9 @@ module _ {t lent l : List ℕ} {r : AnswerRead} (p : ReadsAnswer t lent r l) whe
 
   pub read-answer-exactly : (r .code ≡ 0) ↔ (AnswerRoom lent × ((a : Answer) × AnswerHolds a × (t ≡ answer-text a)))
   read-answer-exactly = succeeds-exactly answers AnswerRoom no-answer answer-read answer-filled answer-room-decided (λ r. r .code) (λ n. refl) (λ v. refl) p
+
+  pub read-answer-values : r .code ≡ 0 → AnswerHolds (answer-values r l) × (t ≡ answer-text (answer-values r l))
+  read-answer-values z = values-are answers AnswerRoom no-answer answer-read answer-filled answer-room-decided (λ r. r .code) (λ n. refl) (λ v. refl) answer-values answer-values-read p z
 
   pub answer-writes-back : {out out′ : List ℕ} {w : Written} → r .code ≡ 0 → WritesAnswer (answer-values r l) out w out′ → length t ≤ length out →
       (w ≡ record { code = 0; len = length t }) × (out′ ≡ over t out)

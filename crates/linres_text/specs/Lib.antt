@@ -1,0 +1,4 @@
+pub mod Texts
+pub mod Promise
+pub mod Jobs
+pub mod Theorems
