@@ -80,9 +80,9 @@ fn answer_back(text: &[u8], modulus: u32, simple: bool, cs: &[u32], n: usize) {
     }
 }
 
-// Reads a job: the text's length, code, modulus, the two counts, the words kept, and whether it is written back as it was.
-fn job_in(name: &[u8], text: &[u8], cs: &mut [u32], ws: &mut [i32]) {
-    say(name);
+// Reads a job: the case, the text's length, code, modulus, the two counts, the words kept, and whether it is written back as it was.
+fn job_in(case: usize, text: &[u8], cs: &mut [u32], ws: &mut [i32]) {
+    number(case);
     let r = records::read_job(text, cs, ws);
     let n = r.degree;
     let m = r.weights;
@@ -101,23 +101,23 @@ fn job_in(name: &[u8], text: &[u8], cs: &mut [u32], ws: &mut [i32]) {
 }
 
 // The same with slices of c and w words lent.
-fn job_lent(name: &[u8], text: &[u8], c: usize, w: usize) {
+fn job_lent(case: usize, text: &[u8], c: usize, w: usize) {
     let mut cs = [7u32; 65];
     let mut ws = [7i32; 65];
     if c <= 65 {
         if w <= 65 {
-            job_in(name, text, &mut cs[0..c], &mut ws[0..w]);
+            job_in(case, text, &mut cs[0..c], &mut ws[0..w]);
         }
     }
 }
 
-fn job(name: &[u8], text: &[u8]) {
-    job_lent(name, text, 65, 65);
+fn job(case: usize, text: &[u8]) {
+    job_lent(case, text, 65, 65);
 }
 
 // The same for an answer, with its mark as 1 or 0.
-fn answer_in(name: &[u8], text: &[u8], cs: &mut [u32]) {
-    say(name);
+fn answer_in(case: usize, text: &[u8], cs: &mut [u32]) {
+    number(case);
     let r = records::read_answer(text, cs);
     let n = r.degree;
     number(text.len());
@@ -137,15 +137,15 @@ fn answer_in(name: &[u8], text: &[u8], cs: &mut [u32]) {
     say(b"\n");
 }
 
-fn answer_lent(name: &[u8], text: &[u8], c: usize) {
+fn answer_lent(case: usize, text: &[u8], c: usize) {
     let mut cs = [7u32; 1025];
     if c <= 1025 {
-        answer_in(name, text, &mut cs[0..c]);
+        answer_in(case, text, &mut cs[0..c]);
     }
 }
 
-fn answer(name: &[u8], text: &[u8]) {
-    answer_lent(name, text, 1025);
+fn answer(case: usize, text: &[u8]) {
+    answer_lent(case, text, 1025);
 }
 
 // Copies the bytes to the place, as far as there is room, and answers the place behind them.
@@ -180,23 +180,23 @@ fn repeat(out: &mut [u8], at: usize, item: &[u8], n: usize) -> usize {
 }
 
 // Reads a job of n coefficients and m weights, which are given with a comma behind each.
-fn long_job(name: &[u8], head: &[u8], coeff: &[u8], n: usize, weight: &[u8], m: usize) {
+fn long_job(case: usize, head: &[u8], coeff: &[u8], n: usize, weight: &[u8], m: usize) {
     let mut text = [0u8; 1200];
     let a = append(&mut text, 0, head);
     let b = repeat(&mut text, a, coeff, n);
     let c = append(&mut text, b, b"weights=");
     let d = repeat(&mut text, c, weight, m);
     if d <= 1200 {
-        job(name, &text[0..d]);
+        job(case, &text[0..d]);
     }
 }
 
-fn long_answer(name: &[u8], head: &[u8], coeff: &[u8], n: usize) {
+fn long_answer(case: usize, head: &[u8], coeff: &[u8], n: usize) {
     let mut text = [0u8; 11400];
     let a = append(&mut text, 0, head);
     let b = repeat(&mut text, a, coeff, n);
     if b <= 11400 {
-        answer(name, &text[0..b]);
+        answer(case, &text[0..b]);
     }
 }
 
@@ -214,95 +214,66 @@ fn show(w: Written, out: &[u8]) {
 }
 
 // Writes a job into `room` bytes.
-fn put_job(name: &[u8], coeffs: &[u32], weights: &[i32], room: usize) {
+fn put_job(case: usize, coeffs: &[u32], weights: &[i32], room: usize) {
     let mut out = [35u8; 60];
     if room <= 60 {
         let part = &mut out[0..room];
-        say(name);
+        number(case);
         let w = records::write_job(257, coeffs, weights, part);
         show(w, part);
     }
 }
 
-fn put_answer(name: &[u8], simple: bool, coeffs: &[u32], room: usize) {
+fn put_answer(case: usize, simple: bool, coeffs: &[u32], room: usize) {
     let mut out = [35u8; 60];
     if room <= 60 {
         let part = &mut out[0..room];
-        say(name);
+        number(case);
         let w = records::write_answer(257, simple, coeffs, part);
         show(w, part);
     }
 }
 
 fn jobs() {
+    // the document's example
+    job(1, b"modulus=257\ndegree=4\ncoeffs=0,0,0,256\nweights=1,1\n");
+    // the largest and smallest numbers
     job(
-        b"example",
-        b"modulus=257\ndegree=4\ncoeffs=0,0,0,256\nweights=1,1\n",
-    );
-    job(
-        b"edges",
+        2,
         b"modulus=4294967295\ndegree=2\ncoeffs=4294967295,0\nweights=-999,999,0\n",
     );
-    job(b"empty", b"");
-    job(b"NUL", b"modulus=257\ndegree=1\ncoeffs=0\nweights=1\n\x00");
-    job(
-        b"above 127",
-        b"modulus=257\ndegree=1\ncoeffs=\xb2\nweights=1\n",
-    );
-    job(
-        b"CR LF",
-        b"modulus=257\r\ndegree=1\r\ncoeffs=0\r\nweights=1\r\n",
-    );
-    job(b"no last LF", b"modulus=257\ndegree=1\ncoeffs=0\nweights=1");
-    job(
-        b"leading zero",
-        b"modulus=0257\ndegree=1\ncoeffs=0\nweights=1\n",
-    );
-    job(
-        b"minus zero",
-        b"modulus=257\ndegree=1\ncoeffs=0\nweights=-0\n",
-    );
-    job(
-        b"4294967296",
-        b"modulus=4294967296\ndegree=1\ncoeffs=0\nweights=1\n",
-    );
+    // an empty text
+    job(3, b"");
+    // NUL
+    job(4, b"modulus=257\ndegree=1\ncoeffs=0\nweights=1\n\x00");
+    // a byte above 127
+    job(5, b"modulus=257\ndegree=1\ncoeffs=\xb2\nweights=1\n");
+    // CR LF
+    job(6, b"modulus=257\r\ndegree=1\r\ncoeffs=0\r\nweights=1\r\n");
+    // no last LF
+    job(7, b"modulus=257\ndegree=1\ncoeffs=0\nweights=1");
+    // leading zero
+    job(8, b"modulus=0257\ndegree=1\ncoeffs=0\nweights=1\n");
+    // minus zero
+    job(9, b"modulus=257\ndegree=1\ncoeffs=0\nweights=-0\n");
+    // one too large
+    job(10, b"modulus=4294967296\ndegree=1\ncoeffs=0\nweights=1\n");
 }
 
 fn counts() {
-    job(
-        b"no weights",
-        b"modulus=257\ndegree=1\ncoeffs=0\nweights=\n",
-    );
-    job(
-        b"other degree",
-        b"modulus=257\ndegree=1\ncoeffs=0,1\nweights=1\n",
-    );
+    // no weights
+    job(11, b"modulus=257\ndegree=1\ncoeffs=0\nweights=\n");
+    // other degree
+    job(12, b"modulus=257\ndegree=1\ncoeffs=0,1\nweights=1\n");
+    // 64 coefficients and 64 weights
+    long_job(13, b"modulus=257\ndegree=64\ncoeffs=", b"1,", 64, b"2,", 64);
+    // 65 coefficients
+    long_job(14, b"modulus=257\ndegree=65\ncoeffs=", b"1,", 65, b"2,", 64);
+    // 65 weights
+    long_job(15, b"modulus=257\ndegree=64\ncoeffs=", b"1,", 64, b"2,", 65);
+    // longest job
     long_job(
-        b"64 and 64",
-        b"modulus=257\ndegree=64\ncoeffs=",
-        b"1,",
-        64,
-        b"2,",
-        64,
-    );
-    long_job(
-        b"65 and 64",
-        b"modulus=257\ndegree=65\ncoeffs=",
-        b"1,",
-        65,
-        b"2,",
-        64,
-    );
-    long_job(
-        b"64 and 65",
-        b"modulus=257\ndegree=64\ncoeffs=",
-        b"1,",
-        64,
-        b"2,",
-        65,
-    );
-    long_job(
-        b"longest job",
+        16,
         b"modulus=4294967295\ndegree=64\ncoeffs=",
         b"4294967295,",
         64,
@@ -313,44 +284,52 @@ fn counts() {
 
 fn lent() {
     let text = b"modulus=257\ndegree=1\ncoeffs=0\nweights=1\n";
-    job_lent(b"63 words lent", text, 63, 64);
-    job_lent(b"63 weights lent", text, 64, 63);
-    job_lent(b"63 words lent, no job", b"job", 63, 64);
-    job_lent(b"64 and 64 lent", text, 64, 64);
+    // 63 words lent
+    job_lent(1, text, 63, 64);
+    // 63 weights lent
+    job_lent(2, text, 64, 63);
+    // 63 words lent, no job
+    job_lent(3, b"job", 63, 64);
+    // 64 and 64 lent
+    job_lent(4, text, 64, 64);
     let reply = b"modulus=257\ndegree=1\nsimple=yes\ncoeffs=0\n";
-    answer_lent(b"1023 words lent", reply, 1023);
-    answer_lent(b"1023 words lent, no answer", b"answer", 1023);
-    answer_lent(b"1024 words lent", reply, 1024);
+    // 1023 words lent
+    answer_lent(5, reply, 1023);
+    // 1023 words lent, no answer
+    answer_lent(6, b"answer", 1023);
+    // 1024 words lent
+    answer_lent(7, reply, 1024);
 }
 
 fn answers() {
+    // the document's example
     answer(
-        b"example",
+        1,
         b"modulus=257\ndegree=6\nsimple=yes\ncoeffs=0,0,0,4,0,0\n",
     );
-    answer(b"no", b"modulus=257\ndegree=1\nsimple=no\ncoeffs=256\n");
-    answer(
-        b"neither",
-        b"modulus=257\ndegree=1\nsimple=maybe\ncoeffs=256\n",
-    );
-    answer(
-        b"other degree",
-        b"modulus=257\ndegree=2\nsimple=yes\ncoeffs=256\n",
-    );
+    // the other mark
+    answer(2, b"modulus=257\ndegree=1\nsimple=no\ncoeffs=256\n");
+    // neither mark
+    answer(3, b"modulus=257\ndegree=1\nsimple=maybe\ncoeffs=256\n");
+    // other degree
+    answer(4, b"modulus=257\ndegree=2\nsimple=yes\ncoeffs=256\n");
+    // 1,024 coefficients
     long_answer(
-        b"1024",
+        5,
         b"modulus=257\ndegree=1024\nsimple=no\ncoeffs=",
         b"1,",
         1024,
     );
+    // 1,025 coefficients
     long_answer(
-        b"1025",
+        6,
         b"modulus=257\ndegree=1025\nsimple=no\ncoeffs=",
         b"1,",
         1025,
     );
+    // longest answer
     long_answer(
-        b"longest answer",
+        7,
         b"modulus=4294967295\ndegree=1024\nsimple=yes\ncoeffs=",
         b"4294967295,",
         1024,
@@ -363,24 +342,36 @@ fn written_jobs() {
     let none = [0u32; 0];
     let many = [0u32; 65];
     let large = [1000i32];
-    put_job(b"three bytes more", &coeffs, &weights, 54);
-    put_job(b"exactly long enough", &coeffs, &weights, 51);
-    put_job(b"one byte shorter", &coeffs, &weights, 50);
-    put_job(b"no coefficients", &none, &weights, 60);
-    put_job(b"65 coefficients, no room", &many, &weights, 0);
-    put_job(b"weight 1000, no room", &coeffs, &large, 0);
+    // three bytes more
+    put_job(1, &coeffs, &weights, 54);
+    // exactly long enough
+    put_job(2, &coeffs, &weights, 51);
+    // one byte shorter
+    put_job(3, &coeffs, &weights, 50);
+    // no coefficients
+    put_job(4, &none, &weights, 60);
+    // 65 coefficients, no room
+    put_job(5, &many, &weights, 0);
+    // weight 1000, no room
+    put_job(6, &coeffs, &large, 0);
 }
 
 fn written_answers() {
     let coeffs = [0u32, 0, 0, 4, 0, 0];
     let none = [0u32; 0];
     let many = [0u32; 1025];
-    put_answer(b"three bytes more", true, &coeffs, 54);
-    put_answer(b"exactly long enough", true, &coeffs, 51);
-    put_answer(b"one byte shorter", true, &coeffs, 50);
-    put_answer(b"not simple", false, &coeffs, 50);
-    put_answer(b"no coefficients, no room", true, &none, 0);
-    put_answer(b"1025 coefficients, no room", true, &many, 0);
+    // three bytes more
+    put_answer(1, true, &coeffs, 54);
+    // exactly long enough
+    put_answer(2, true, &coeffs, 51);
+    // one byte shorter
+    put_answer(3, true, &coeffs, 50);
+    // not simple
+    put_answer(4, false, &coeffs, 50);
+    // no coefficients, no room
+    put_answer(5, true, &none, 0);
+    // 1025 coefficients, no room
+    put_answer(6, true, &many, 0);
 }
 
 fn main() {

@@ -11,7 +11,7 @@ returns : tie.Need-returns
 returns c = outcomes.too-short answers AnswerRoom no-answer answer-read answer-filled (c .before .before .before .before .args .text .now) (c .before .before .before .before .args .coeffs .now) _ (λ o. omega (arith, o, c .before .if1 .taken)) (c .refused-answer .ensures)
 
 copy-words-requires : tie.Need-copy-words-requires
-copy-words-requires c κs = let h = outcomes.answer-counts (c .before .before .before .before .before .before .before .before .args .text .now) _ _ (c .before .before .before .parse-answer .ensures) in (h, omega (arith, h, c .before .before .before .parse-answer .kept, c .before .before .before .before .before .if1 .left))
+copy-words-requires c κs = omega (arith, outcomes.answer-counts (c .before .before .before .before .before .before .before .before .args .text .now) _ _ (c .before .before .before .parse-answer .ensures), c .before .before .before .parse-answer .kept, c .before .before .before .before .before .if1 .left)
 
 returns-2 : tie.Need-returns-2
 returns-2 c = outcomes.answer-copied (c .before .before .before .before .before .before .before .before .before .before .before .args .text .now) _ _ _ _ (c .before .before .before .before .before .before .before .before .if1 .left) (c .before .before .copy-words .ensures) (c .before .before .before .before .before .before .parse-answer .ensures)

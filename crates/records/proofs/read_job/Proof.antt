@@ -14,10 +14,10 @@ returns-2 : tie.Need-returns-2
 returns-2 c = outcomes.too-short jobs JobRoom no-job job-read job-filled (c .before .before .before .before .before .args .text .now) (c .before .before .before .before .before .args .coeffs .now, c .before .before .before .before .before .args .weights .now) _ (λ o. omega (arith, o .1, c .before .if2 .taken)) (c .refused-job2 .ensures)
 
 copy-words-requires : tie.Need-copy-words-requires
-copy-words-requires c κs = let h = outcomes.job-counts (c .before .before .before .before .before .before .before .before .before .before .before .args .text .now) _ _ _ (c .before .before .before .before .parse-job .ensures) in (h .0, omega (arith, h .0, c .before .before .before .before .parse-job .kept, c .before .before .before .before .before .before .before .before .if1 .left))
+copy-words-requires c κs = omega (arith, outcomes.job-counts (c .before .before .before .before .before .before .before .before .before .before .before .args .text .now) _ _ _ (c .before .before .before .before .parse-job .ensures), c .before .before .before .before .parse-job .kept, c .before .before .before .before .before .before .before .before .if1 .left)
 
 copy-signeds-requires : tie.Need-copy-signeds-requires
-copy-signeds-requires c κs = let h = outcomes.job-counts (c .before .before .before .before .before .before .before .before .before .before .before .before .before .before .before .before .args .text .now) _ _ _ (c .before .before .before .before .before .before .before .before .before .parse-job .ensures) in (h .1, omega (arith, h .1, c .before .before .before .before .before .before .before .before .before .parse-job .kept, c .before .before .before .before .before .before .before .before .before .before .before .before .if2 .left))
+copy-signeds-requires c κs = omega (arith, outcomes.job-counts (c .before .before .before .before .before .before .before .before .before .before .before .before .before .before .before .before .args .text .now) _ _ _ (c .before .before .before .before .before .before .before .before .before .parse-job .ensures), c .before .before .before .before .before .before .before .before .before .parse-job .kept, c .before .before .before .before .before .before .before .before .before .before .before .before .if2 .left)
 
 returns-3 : tie.Need-returns-3
 returns-3 c = outcomes.job-copied (c .before .before .before .before .before .before .before .before .before .before .before .before .before .before .before .before .before .before .args .text .now) _ _ _ _ _ _ _ (c .before .before .before .before .before .before .before .before .before .before .before .before .before .before .before .if1 .left, c .before .before .before .before .before .before .before .before .before .before .before .before .before .before .if2 .left) (c .before .before .before .before .before .before .copy-words .ensures) (c .before .copy-signeds .ensures) (c .before .before .before .before .before .before .before .before .before .before .before .parse-job .ensures)
