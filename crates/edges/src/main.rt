@@ -58,22 +58,18 @@ fn told(name: &[u8], r: Outcome, out: &[u32]) {
     say(b"\n");
 }
 
-fn list(len: usize, places: [i32; 6]) -> Weights {
-    Weights { places, len }
-}
-
 // A call with as much room as any call needs.
-fn job(name: &[u8], p: u32, f: &[u32], l: Weights) {
+fn job(name: &[u8], p: u32, f: &[u32], len: usize, places: [i32; 6]) {
     let mut out = [7u32; 1024];
     let mut work = [7u32; 12300];
-    let r = resolvents::resolvent(p, f, l, &mut out, &mut work);
+    let r = resolvents::resolvent(p, f, Weights { places, len }, &mut out, &mut work);
     told(name, r, &out);
 }
 
-// A call with the room that is lent, and what it leaves there.
-fn lent(name: &[u8], l: Weights, out: &mut [u32], work: &mut [u32]) {
+// Case C's f with two weights and the room that is lent, and what is left there.
+fn lent(name: &[u8], places: [i32; 6], out: &mut [u32], work: &mut [u32]) {
     let f = [254u32, 2];
-    let r = resolvents::resolvent(257, &f, l, out, work);
+    let r = resolvents::resolvent(257, &f, Weights { places, len: 2 }, out, work);
     told(name, r, out);
     say(b"  output ");
     words(out, out.len());
@@ -83,29 +79,32 @@ fn lent(name: &[u8], l: Weights, out: &mut [u32], work: &mut [u32]) {
 }
 
 fn cases() {
-    job(b"A", 257, &[254], list(1, [5, 0, 0, 0, 0, 0]));
-    job(b"B", 257, &[254, 2], list(2, [1, 1, 0, 0, 0, 0]));
-    job(b"C", 257, &[254, 2], list(2, [1, 2, 0, 0, 0, 0]));
-    job(b"D", 257, &[254, 2], list(2, [1, -1, 0, 0, 0, 0]));
-    job(b"E", 257, &[255, 1], list(2, [1, -1, 0, 0, 0, 0]));
-    job(b"F", 257, &[0, 254], list(2, [1, -1, 0, 0, 0, 0]));
-    job(b"G", 257, &[0, 0, 256], list(2, [1, 1, 0, 0, 0, 0]));
-    job(b"H", 257, &[251, 11, 251], list(2, [1, 1, 0, 0, 0, 0]));
-    job(b"I", 257, &[251, 11, 251], list(3, [1, 1, 1, 0, 0, 0]));
-    job(b"J", 257, &[251, 11, 251], list(2, [2, 1, 0, 0, 0, 0]));
-    job(b"K", 257, &[0, 0, 0, 256], list(2, [1, 1, 0, 0, 0, 0]));
-    job(b"L", 257, &[0, 0, 0, 1], list(2, [1, 1, 0, 0, 0, 0]));
+    job(b"A", 257, &[254], 1, [5, 0, 0, 0, 0, 0]);
+    job(b"B", 257, &[254, 2], 2, [1, 1, 0, 0, 0, 0]);
+    job(b"C", 257, &[254, 2], 2, [1, 2, 0, 0, 0, 0]);
+    job(b"D", 257, &[254, 2], 2, [1, -1, 0, 0, 0, 0]);
+    job(b"E", 257, &[255, 1], 2, [1, -1, 0, 0, 0, 0]);
+    job(b"F", 257, &[0, 254], 2, [1, -1, 0, 0, 0, 0]);
+}
+
+fn more_cases() {
+    job(b"G", 257, &[0, 0, 256], 2, [1, 1, 0, 0, 0, 0]);
+    job(b"H", 257, &[251, 11, 251], 2, [1, 1, 0, 0, 0, 0]);
+    job(b"I", 257, &[251, 11, 251], 3, [1, 1, 1, 0, 0, 0]);
+    job(b"J", 257, &[251, 11, 251], 2, [2, 1, 0, 0, 0, 0]);
+    job(b"K", 257, &[0, 0, 0, 256], 2, [1, 1, 0, 0, 0, 0]);
+    job(b"L", 257, &[0, 0, 0, 1], 2, [1, 1, 0, 0, 0, 0]);
 }
 
 // x^4 - 1 with the weights 1,1, at moduli around the least and the largest.
 fn moduli() {
     let f = [0u32, 0, 0, 256];
-    let pair = list(2, [1, 1, 0, 0, 0, 0]);
-    job(b"251", 251, &f, pair);
-    job(b"257", 257, &f, pair);
-    job(b"259", 259, &f, pair);
-    job(b"2147483647", 2147483647, &f, pair);
-    job(b"2147483648", 2147483648, &f, pair);
+    let pair = [1i32, 1, 0, 0, 0, 0];
+    job(b"251", 251, &f, 2, pair);
+    job(b"257", 257, &f, 2, pair);
+    job(b"259", 259, &f, 2, pair);
+    job(b"2147483647", 2147483647, &f, 2, pair);
+    job(b"2147483648", 2147483648, &f, 2, pair);
 }
 
 // Numbers of placements around 1,024 and around p.
@@ -114,48 +113,46 @@ fn numbers() {
     let ten = [1u32, 2, 3, 4, 5, 6, 7, 8, 9, 10];
     let eleven = [1u32, 2, 3, 4, 5, 6, 7, 8, 9, 10, 11];
     let twelve = [1u32, 2, 3, 4, 5, 6, 7, 8, 9, 10, 11, 12];
-    let six_ones = list(6, [1, 1, 1, 1, 1, 1]);
-    let one_two_three = list(3, [1, 2, 3, 0, 0, 0]);
-    job(b"924 at 257", 257, &twelve, six_ones);
-    job(b"924 at 1009", 1009, &twelve, six_ones);
-    job(b"990 at 1009", 1009, &eleven, one_two_three);
-    job(b"1320 at 1009", 1009, &twelve, one_two_three);
-    job(b"1320 at 257", 257, &twelve, one_two_three);
-    job(b"252 at 257", 257, &ten, list(5, [1, 1, 1, 1, 1, 0]));
-    job(b"336 at 257", 257, &eight, one_two_three);
-    job(
-        b"840 at 2147483647",
-        2147483647,
-        &eight,
-        list(4, [16, -16, 1, 1, 0, 0]),
-    );
+    let ones = [1i32; 6];
+    let one_two_three = [1i32, 2, 3, 0, 0, 0];
+    let wide = [16i32, -16, 1, 1, 0, 0];
+    job(b"924 at 257", 257, &twelve, 6, ones);
+    job(b"924 at 1009", 1009, &twelve, 6, ones);
+    job(b"990 at 1009", 1009, &eleven, 3, one_two_three);
+    job(b"1320 at 1009", 1009, &twelve, 3, one_two_three);
+    job(b"1320 at 257", 257, &twelve, 3, one_two_three);
+    job(b"252 at 257", 257, &ten, 5, ones);
+    job(b"336 at 257", 257, &eight, 3, one_two_three);
+    job(b"840 at 2147483647", 2147483647, &eight, 4, wide);
 }
 
-// Degrees, counts and weights at their bounds.
-fn bounds() {
+// Degrees and counts of weights at their bounds.
+fn counts() {
     let none = [0u32; 0];
     let two = [254u32, 2];
+    let six = [1u32, 2, 3, 4, 5, 6];
     let seven = [1u32; 7];
     let thirteen = [1u32; 13];
-    let pair = list(2, [1, 1, 0, 0, 0, 0]);
-    job(b"n = 0", 257, &none, pair);
-    job(b"n = 13", 257, &thirteen, pair);
-    job(b"r = 0", 257, &two, list(0, [1, 1, 1, 1, 1, 1]));
-    job(b"r = 7", 257, &seven, list(7, [1, 1, 1, 1, 1, 1]));
-    job(b"r = 3 above n = 2", 257, &two, list(3, [1, 1, 1, 0, 0, 0]));
-    job(
-        b"r = n = 6",
-        257,
-        &[1, 2, 3, 4, 5, 6],
-        list(6, [1, 1, 1, 1, 1, 1]),
-    );
-    job(b"weight 0", 257, &two, list(1, [0, 0, 0, 0, 0, 0]));
-    job(b"weight 16", 257, &two, list(1, [16, 0, 0, 0, 0, 0]));
-    job(b"weight 17", 257, &two, list(1, [17, 0, 0, 0, 0, 0]));
-    job(b"weight -16", 257, &two, list(1, [-16, 0, 0, 0, 0, 0]));
-    job(b"weight -17", 257, &two, list(1, [-17, 0, 0, 0, 0, 0]));
-    job(b"coefficient 256", 257, &[256, 2], pair);
-    job(b"coefficient 257", 257, &[254, 257], pair);
+    let ones = [1i32; 6];
+    job(b"n = 0", 257, &none, 2, ones);
+    job(b"n = 13", 257, &thirteen, 2, ones);
+    job(b"r = 0", 257, &two, 0, ones);
+    job(b"r = 7", 257, &seven, 7, ones);
+    job(b"r = 3 above n = 2", 257, &two, 3, ones);
+    job(b"r = n = 6", 257, &six, 6, ones);
+}
+
+// Weights and coefficients at theirs.
+fn sizes() {
+    let two = [254u32, 2];
+    let ones = [1i32; 6];
+    job(b"weight 0", 257, &two, 1, [0; 6]);
+    job(b"weight 16", 257, &two, 1, [16; 6]);
+    job(b"weight 17", 257, &two, 1, [17; 6]);
+    job(b"weight -16", 257, &two, 1, [-16; 6]);
+    job(b"weight -17", 257, &two, 1, [-17; 6]);
+    job(b"coefficient 256", 257, &[256, 2], 2, ones);
+    job(b"coefficient 257", 257, &[254, 257], 2, ones);
 }
 
 // Calls that break several rules: the first in document 01's order tells.
@@ -163,41 +160,28 @@ fn orders() {
     let two = [254u32, 2];
     let many_large = [4294967295u32; 13];
     let twelve = [0u32; 12];
-    let empty = list(0, [0, 0, 0, 0, 0, 0]);
-    let zero = list(1, [0, 0, 0, 0, 0, 0]);
-    job(b"251, weight 0", 251, &two, zero);
-    job(b"n = 13, large coefficients", 257, &many_large, empty);
-    job(b"coefficient 257, no weights", 257, &[257], empty);
-    job(b"r = 7 above n = 2", 257, &two, list(7, [0, 0, 0, 0, 0, 0]));
-    job(
-        b"r = 3 above n = 2, weights 0",
-        257,
-        &two,
-        list(3, [0, 0, 0, 0, 0, 0]),
-    );
-    job(
-        b"1320 placements, a weight 0",
-        257,
-        &twelve,
-        list(3, [1, 2, 0, 0, 0, 0]),
-    );
+    let zeros = [0i32; 6];
+    let with_zero = [1i32, 2, 0, 0, 0, 0];
+    job(b"251, weight 0", 251, &two, 1, zeros);
+    job(b"n = 13, large coefficients", 257, &many_large, 0, zeros);
+    job(b"coefficient 257, no weights", 257, &[257], 0, zeros);
+    job(b"r = 7 above n = 2", 257, &two, 7, zeros);
+    job(b"r = 3 above n = 2, weights 0", 257, &two, 3, zeros);
+    job(b"1320 placements, a weight 0", 257, &twelve, 3, with_zero);
 }
 
 // Places after the r-th count for nothing.
 fn places() {
-    job(b"zeros behind", 257, &[254, 2], list(2, [1, 2, 0, 0, 0, 0]));
-    job(
-        b"others behind",
-        257,
-        &[254, 2],
-        list(2, [1, 2, 99, 0, -7, 2147483647]),
-    );
+    let two = [254u32, 2];
+    let others = [1i32, 2, 99, 0, -7, 2147483647];
+    job(b"zeros behind", 257, &two, 2, [1, 2, 0, 0, 0, 0]);
+    job(b"others behind", 257, &two, 2, others);
 }
 
-// Output and work room: more than enough, exactly enough, one word fewer of each, and neither.
+// Output and work room: more than enough, one word fewer of each and of both, and exactly enough.
 fn room() {
-    let pair = list(2, [1, 1, 0, 0, 0, 0]);
-    let apart = list(2, [1, 2, 0, 0, 0, 0]);
+    let pair = [1i32, 1, 0, 0, 0, 0];
+    let apart = [1i32, 2, 0, 0, 0, 0];
     let mut out = [7u32, 8, 9, 10];
     let mut work = [7u32; 27];
     let mut two = [7u32; 2];
@@ -214,12 +198,14 @@ fn room() {
 fn main() {
     say(b"-- cases\n");
     cases();
+    more_cases();
     say(b"-- moduli\n");
     moduli();
     say(b"-- numbers of placements\n");
     numbers();
     say(b"-- bounds\n");
-    bounds();
+    counts();
+    sizes();
     say(b"-- the first rule broken\n");
     orders();
     say(b"-- places after the r-th\n");

@@ -60,11 +60,12 @@ module _ (entry : Call → Exit) (keeps : Keeps entry) where
 
   -- the first weight worked and copied for the others, so that the first weight and r tell the output: C and D have the weights
   -- 1,2 and 1,-1
-  pub first-weight-copied : (g : ℕ → List ℕ → ℤ → ℕ → List ℕ) → ((c : Call) → take (entry c .outcome .count) (entry c .output) ≡ g (c .p) (c .f) (getD (c .places) 0 (pos 0)) (c .r)) → ⊥
+  pub first-weight-copied : (g : ℕ → List ℕ → ℤ → ℕ → List ℕ)
+      → ((c : Call) → entry c .outcome .code ≡ 0 → take (entry c .outcome .count) (entry c .output) ≡ g (c .p) (c .f) (getD (c .places) 0 (pos 0)) (c .r)) → ⊥
   unfolding rows
   first-weight-copied g h =
-      let c : 248 ∷ 20 ∷ [] ≡ g 257 (254 ∷ 2 ∷ []) (pos 1) 2 = sym (at 2 (omega arith) .words) ∙ rw (at 2 (omega arith) .count) at (h (ask 2)) in
-      let d : 0 ∷ 256 ∷ [] ≡ g 257 (254 ∷ 2 ∷ []) (pos 1) 2 = sym (at 3 (omega arith) .words) ∙ rw (at 3 (omega arith) .count) at (h (ask 3)) in
+      let c : 248 ∷ 20 ∷ [] ≡ g 257 (254 ∷ 2 ∷ []) (pos 1) 2 = sym (at 2 (omega arith) .words) ∙ rw (at 2 (omega arith) .count) at (h (ask 2) (at 2 (omega arith) .code)) in
+      let d : 0 ∷ 256 ∷ [] ≡ g 257 (254 ∷ 2 ∷ []) (pos 1) 2 = sym (at 3 (omega arith) .words) ∙ rw (at 3 (omega arith) .count) at (h (ask 3) (at 3 (omega arith) .code)) in
       let z : _≡_ {A = ℕ} 248 0 = ap (λ l. getD l 0 0) (c ∙ sym d) in
       absurd (omega (arith, z))
 

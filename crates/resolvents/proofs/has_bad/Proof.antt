@@ -1,15 +1,13 @@
 -- `resolvents::has_bad` meets its contract: every weight before the counter is good.
 use mathlib.Core.Path.{_≡_, sym, _∙_}
-use Prim.Native.Nat.{ℕ, _-_}
+use Prim.Native.Nat.{ℕ, _-_, _<_}
 use native.Mathlib.Omega.{arith}
 use borrow.Author.Needs.{needs}
-use lib.ListN.{length, getD}
+use lib.ListN.{length, getD, length-map}
 use Rattle.resolvents.proofs.Search.{Sought, sought-none, sought-more, sought-found, sought-all}
 use mathlib.Core.Bool.{Bool}
-use Prim.Native.Nat.{_<_}
 use lib.IntN.{pos}
 use lib.Signed.{mag}
-use lib.ListN.{length-map}
 use mir.Syntax.{w32}
 use mir.Val.{toZ, ofZ}
 use mir.ValLaws.{toZ-ofZ}
