@@ -3,33 +3,31 @@ use mathlib.Core.Path.{_≡_, refl, sym, ap, _∙_}
 use mathlib.Core.List.{List}
 use Prim.Native.Nat.{ℕ, _≤_, _<_}
 use native.Mathlib.Omega.{arith}
-use lib.ListN.{length, take, drop}
-use lib.Seq.{take-append-seam}
+use lib.ListN.{length, take}
+use lib.Seq.{take-length}
 use lib.IntN.{ℤ}
 use Rattle.placements.specs.Number.{placed}
 use Rattle.residues.specs.Residues.{residues, Words}
 use Rattle.definition.specs.Definition.{Resolvent}
-use Rattle.definition.specs.Refusals.{Call, N, room, refusal}
+use Rattle.definition.specs.Refusals.{room, refusal}
 use Rattle.lines.specs.Lines.{refused-line}
 use Rattle.records.specs.declared.JobRead.{JobRead}
 use Rattle.records.specs.declared.Written.{Written}
 use Rattle.records.specs.Records.{Job, JobHolds, job, job-text, AnswerHolds, answer, answer-text}
-use Rattle.records.specs.Promises.{ReadsJob, WritesAnswer, job-read, job-filled}
+use Rattle.records.specs.Promises.{ReadsJob, WritesAnswer, job-read}
 use Rattle.records.specs.Theorems.{read-job-exactly, read-job-values, job-values, job-one-spelling}
-use Rattle.weights.specs.declared.Weights.{Weights}
-use Rattle.weights.specs.Lists.{listed}
 use Rattle.resolvents.specs.declared.Outcome.{Outcome}
-use Rattle.resolvents.specs.Promise.{Promise, Done, given, left}
-use Rattle.linres_text.specs.Texts.{call, Answered, AnswerTo, TextOf}
+use Rattle.resolvents.specs.Promise.{Promise, Done, left}
+use Rattle.linres_text.specs.Texts.{asked, call, AnswerTo, TextOf}
 use Rattle.linres_text.specs.Promise.{Put, Puts}
-use Rattle.linres_text.specs.Jobs.{N-of, Good, good-exactly, holds, same-weights, same-refusal}
+use Rattle.linres_text.specs.Jobs.{N-of, Good, good-exactly, holds}
+use Rattle.linres_text.specs.Slices.{job-refusal}
 
 -- ---- a job
-module _ (j : Job) (list : Weights) (o w : List ℕ) (o-long : length o ≡ 1024) (w-long : length w ≡ room 1024)
-    (six : (list .len ≡ length (j .weights)) × (listed list ≡ take 6 (j .weights)))
-    (e : Outcome) (o′ w′ : List ℕ) (kept : Promise (given (j .modulus) (j .coeffs) list o w) (left e o′ w′)) where
+module _ (j : Job) (o w : List ℕ) (o-long : length o ≡ 1024) (w-long : length w ≡ room 1024)
+    (e : Outcome) (o′ w′ : List ℕ) (kept : Promise (asked (j .modulus) (j .coeffs) (j .weights) o w) (left e o′ w′)) where
   code-is : e .code ≡ refusal (call j)
-  code-is = kept .code ∙ same-refusal j list o w (six .0) (six .1) o-long w-long
+  code-is = kept .code ∙ job-refusal j o w o-long w-long
 
   pub job-refused : (out out′ : List ℕ) (r : Written) → (e .code ≡ 0 → ⊥) → Put (refused-line (e .code)) out r out′ → Puts (AnswerTo j) out r out′
   job-refused out out′ r n p = record {
@@ -45,14 +43,11 @@ module _ (j : Job) (list : Weights) (o w : List ℕ) (o-long : length o ≡ 1024
     is-good : Good j
     is-good = good-exactly j .0 none
 
-    same : take (list .len) (list .places) ≡ j .weights
-    same = same-weights j list o w (six .0) (six .1) (is-good .list .high)
-
-    found : Done (given (j .modulus) (j .coeffs) list o w) (left e o′ w′)
+    found : Done (asked (j .modulus) (j .coeffs) (j .weights) o w) (left e o′ w′)
     found = kept .done (sym (kept .code) ∙ zero)
 
     number : e .count ≡ N-of j
-    number = found .count ∙ ap (placed (length (j .coeffs))) same
+    number = found .count ∙ ap (placed (length (j .coeffs))) (take-length (j .weights))
 
     pub few : e .count ≤ 1024
     few = rw number (is-good .high)
@@ -60,8 +55,8 @@ module _ (j : Job) (list : Weights) (o w : List ℕ) (o-long : length o ≡ 1024
     pub job-answered : (out out′ : List ℕ) (r : Written) → WritesAnswer (answer (j .modulus) (e .simple) (take (e .count) o′)) out r out′ → Puts (AnswerTo j) out r out′
     job-answered out out′ r p =
         let b : List ℕ = take (e .count) o′ in
-        let resolved : Resolvent (residues (j .modulus)) (j .coeffs) (j .weights) b = rw number (rw same at (found .resolved)) in
-        let words : Words (j .modulus) b = rw number (rw same at (found .words)) in
+        let resolved : Resolvent (residues (j .modulus)) (j .coeffs) (j .weights) b = rw number (rw (take-length (j .weights)) at (found .resolved)) in
+        let words : Words (j .modulus) b = rw number (rw (take-length (j .weights)) at (found .words)) in
         let held : AnswerHolds (answer (j .modulus) (e .simple) b) = holds j is-good (e .simple) b (resolved .size) words in
         record {
           bytes = answer-text (answer (j .modulus) (e .simple) b);

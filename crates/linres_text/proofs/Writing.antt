@@ -1,15 +1,12 @@
 -- From what a function found to what it promises of the bytes: there is no room, or the text was written.
-use mathlib.Core.Path.{_≡_, refl, _∙_}
-use mathlib.Core.List.{List, [], _∷_}
-use Prim.Native.Nat.{ℕ, _+_, _≤_, _<_}
+use mathlib.Core.Path.{refl, _∙_}
+use mathlib.Core.List.{List}
+use Prim.Native.Nat.{ℕ, _≤_, _<_}
 use native.Mathlib.Nat.{zero-add}
 use native.Mathlib.Omega.{arith}
-use lib.ListN.{length, length-append}
+use lib.ListN.{length}
 use lib.Seq.{sets-eq}
-use Rattle.decimal.specs.Spelling.{decimal}
 use Rattle.decimal.specs.Written.{Wrote}
-use Rattle.lines.specs.Lines.{bytes, refused-line}
-use Rattle.records.specs.declared.Written.{Written}
 use Rattle.linres_text.specs.Promise.{Put}
 
 pub no-room : (s out : List ℕ) → length out < length s → Put s out (record { code = 14; len = 0 }) out
@@ -20,7 +17,3 @@ written s out out′ k h w = record {
   row-14 = λ l. absurd (omega arith);
   success = λ _. (rw (w .place, zero-add), w .text ∙ sets-eq s out 0 (omega arith) ∙ rw zero-add);
 }
-
-pub refused-length : (n : ℕ) → length (refused-line n) ≡ 9 + length (decimal n)
-unfolding refused-line bytes
-refused-length n = omega (arith, length-append (decimal n) (10 ∷ []))

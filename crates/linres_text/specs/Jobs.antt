@@ -1,18 +1,15 @@
--- Which jobs are answered: those that break none of rows 2 to 10. Rows 11 and 12 ask for no more room than there is, and the list
--- that the entry gets has the job's first six weights, which makes no difference, since row 6 comes before the rows that read them.
-use mathlib.Core.Path.{_≡_, refl, sym, ap, _∙_}
-use mathlib.Core.Bool.{Bool, true, false}
-use mathlib.Core.List.{List, [], _∷_, _++_}
+-- Which jobs are answered: those that break none of rows 2 to 10. Rows 11 and 12 ask for no more room than there is, and what row 16
+-- asks holds where N and the weights' count are below p.
+use mathlib.Core.Path.{_≡_}
+use mathlib.Core.Bool.{Bool}
+use mathlib.Core.List.{List, [], _∷_}
 use mathlib.Core.Logic.{_↔_}
 use Prim.Native.Nat.{ℕ, zero, suc, _*_, _≤_, _<_}
 use native.Mathlib.Nat as N
-use native.Mathlib.Decide.{decLe}
 use native.Mathlib.Omega.{arith}
-use borrow.Author.Tests.{lt-ltb}
-use lib.Dec.{eqb}
-use lib.ListN.{length, getD, take, length-replicate}
-use lib.Seq.{take-length, take-all}
-use lib.IntN.{ℤ}
+use lib.ListN.{length, getD, length-replicate}
+use lib.Seq.{take-length}
+use lib.IntN.{ℤ, pos}
 use Rattle.algebra.specs.Binomial.{falling, falling-zero, falling-suc}
 use Rattle.algebra.specs.Integer.{ℤ-eq}
 use Rattle.placements.specs.Multiplicity.{factorials}
@@ -20,14 +17,10 @@ use Rattle.placements.specs.Number.{placed, placed-whole}
 use Rattle.residues.specs.Residues.{Words}
 use Rattle.residues.specs.Field.{below-apart}
 use Rattle.definition.specs.Words.{factorials-apart}
-use Rattle.definition.specs.Refusals.{Call, weights, room, first, checks, refusal, modulus-checks, polynomial-checks, weight-checks, GoodModulus, GoodPolynomial, GoodWeights}
-use Rattle.definition.specs.Table.{first-holds, or-right, not-refused}
-use Rattle.decimal.specs.Spelling.{Each, Word}
-use Rattle.lines.specs.Lines.{Counted}
-use Rattle.records.specs.Records.{Job, job, AnswerHolds, answer}
-use Rattle.weights.specs.declared.Weights.{Weights}
-use Rattle.weights.specs.Lists.{listed}
-use Rattle.resolvents.specs.Promise.{given}
+use Rattle.definition.specs.Refusals.{weights, room, refusal, GoodModulus, GoodPolynomial, GoodWeights}
+use Rattle.definition.specs.Table.{not-refused}
+use Rattle.decimal.specs.Spelling.{Each, Small, Word}
+use Rattle.records.specs.Records.{Job, JobHolds, AnswerHolds, answer}
 use Rattle.linres_text.specs.Texts.{call}
 
 -- N of a job
@@ -42,7 +35,7 @@ pub record Good (j : Job) : Type 0 where
   pub below : N-of j < j .modulus
 
 module _ (j : Job) where
-  -- no number is given exactly to a job that breaks none of them: row 16 never applies, since N and the weights' count are below p
+  -- no number is given exactly to a job that breaks none of them
   pub good-exactly : (refusal (call j) ≡ 0) ↔ Good j
   unfolding call
   good-exactly = (
@@ -86,9 +79,12 @@ positive-right a (suc b) h = omega arith
 pub placed-positive : (n : ℕ) (L : List ℤ) → length L ≤ n → 0 < placed n L
 placed-positive n L h = positive-right (factorials ℤ-eq L) (placed n L) (rw (placed-whole n L) (falling-positive n (length L) h))
 
+each-of : {A : Type 0} (P : A → Type 0) (d : A) (xs : List A) → ((i : ℕ) → i < length xs → P (getD xs i d)) → Each P xs
+each-of P d [] h = tt
+each-of P d (x ∷ xs) h = (h 0 (omega arith), each-of P d xs (λ i l. h (suc i) (omega arith)))
+
 each-word : (p : ℕ) → p ≤ 2147483647 → (b : List ℕ) → Words p b → Each Word b
-each-word p h [] w = tt
-each-word p h (x ∷ b) w = (let l : x < p = w 0 (omega arith) in omega arith, each-word p h b (λ i l. w (suc i) (omega arith)))
+each-word p h b w = each-of Word 0 b (λ i l. omega (arith, w i l))
 
 pub holds : (j : Job) → Good j → (mark : Bool) (b : List ℕ) → length b ≡ N-of j → Words (j .modulus) b → AnswerHolds (answer (j .modulus) mark b)
 holds j g mark b e w = record {
@@ -100,33 +96,10 @@ holds j g mark b e w = record {
   };
 }
 
--- ---- the call that is made is refused as the job is
-first-cong : (rows a b : List (Bool × ℕ)) → first a ≡ first b → first (rows ++ a) ≡ first (rows ++ b)
-unfolding first
-first-cong [] a b e = e
-first-cong ((true, k) ∷ rows) a b e = refl
-first-cong ((false, k) ∷ rows) a b e = first-cong rows a b e
-
-six-first : (n r : ℕ) (L : List ℤ) (rest : List (Bool × ℕ)) → 6 < r → first (weight-checks n r L ++ rest) ≡ first ((true, 6) ∷ [])
-unfolding weight-checks
-six-first n r L rest h = first-holds 6 _ (or-right (eqb r 0) (lt-ltb 6 r h)) ∙ sym (first-holds 6 [] refl)
-
--- more than six weights: rows 2 to 5, then row 6, whatever the weights are
-many-weights : (c : Call) → 6 < c .r → refusal c ≡ first (modulus-checks (c .p) ++ (polynomial-checks (c .p) (c .f) ++ (true, 6) ∷ []))
-unfolding refusal checks
-many-weights c h = first-cong (modulus-checks (c .p)) _ _ (first-cong (polynomial-checks (c .p) (c .f)) _ _ (six-first (length (c .f)) (c .r) (weights c) _ h))
-
-module _ (j : Job) (list : Weights) (out work : List ℕ) (all : list .len ≡ length (j .weights)) (front : listed list ≡ take 6 (j .weights)) where
-  abbrev c : Call
-  c = given (j .modulus) (j .coeffs) list out work
-
-  pub same-weights : length (j .weights) ≤ 6 → weights c ≡ j .weights
-  unfolding listed
-  same-weights h = front ∙ take-all 6 (j .weights) h
-
-  pub same-refusal : length out ≡ 1024 → length work ≡ room 1024 → refusal c ≡ refusal (call j)
-  unfolding refusal checks call
-  same-refusal o w = elim (decLe (length (j .weights)) 6) [
-    | yes h ↦ rw (same-weights h, all, take-length (j .weights), o, w, length-replicate {A = ℕ} 1024 0, length-replicate {A = ℕ} (room 1024) 0)
-    | no h ↦ many-weights c (rw all (omega arith)) ∙ sym (many-weights (call j) (omega arith))
-  ]
+-- and a job record can hold it
+pub good-holds : (j : Job) → Good j → JobHolds j
+good-holds j g = record {
+  modulus = omega (arith, g .modulus .high);
+  coeffs = record { each = each-word (j .modulus) (g .modulus .high) (j .coeffs) (g .polynomial .words); at-least = g .polynomial .some; at-most = omega (arith, g .polynomial .high) };
+  weights = record { each = each-of Small (pos 0) (j .weights) (λ i l. omega (arith, g .list .each i l .1)); at-least = g .list .some; at-most = omega (arith, g .list .high) };
+}

@@ -5,6 +5,7 @@ use mathlib.Core.List.{List}
 use mathlib.Core.Logic.{_↔_}
 use Prim.Native.Nat.{ℕ, _≤_, _<_}
 use lib.ListN.{length, replicate}
+use lib.IntN.{ℤ}
 use Rattle.residues.specs.Residues.{residues, Words}
 use Rattle.polynomials.specs.Divisors.{Simple}
 use Rattle.definition.specs.Definition.{Resolvent}
@@ -12,9 +13,13 @@ use Rattle.definition.specs.Refusals.{Call, room, refusal}
 use Rattle.lines.specs.Lines.{refused-line}
 use Rattle.records.specs.Records.{Job, JobHolds, job-text, answer, answer-text}
 
--- the call that a job makes on the resolvent entry, with room for every N that row 9 lets pass: rows 11 and 12 never apply
+-- a call of the resolvent entry with weights in a list of any length: r is their count
+abbrev pub asked : ℕ → List ℕ → List ℤ → List ℕ → List ℕ → Call
+asked p f weights output work = record { p = p; f = f; places = weights; r = length weights; output = output; work = work }
+
+-- the call that a job makes, with room for every N that row 9 lets pass: rows 11 and 12 never apply
 unfoldable pub call : Job → Call
-call j = record { p = j .modulus; f = j .coeffs; places = j .weights; r = length (j .weights); output = replicate 1024 0; work = replicate (room 1024) 0 }
+call j = asked (j .modulus) (j .coeffs) (j .weights) (replicate 1024 0) (replicate (room 1024) 0)
 
 -- an answer record: "the prime, N, the mark, b1 to b6"
 pub record Answered (j : Job) (bytes : List ℕ) : Type 0 where

@@ -1,30 +1,24 @@
 -- What follows from the promise of `answer_text`: it determines the result and every byte, for every text; what comes back lies
 -- within the bytes lent; and 11,313 bytes are room enough for the answer to any text.
-use mathlib.Core.Path.{_≡_, refl, sym, ap, ap₂, _∙_}
-use mathlib.Core.Bool.{Bool, true, false}
-use mathlib.Core.List.{List, [], _∷_, _++_}
-use mathlib.Core.Logic.{_↔_}
-use Prim.Native.Nat.{ℕ, zero, suc, _+_, _*_, _/_, _^_, _≤_, _<_}
+use mathlib.Core.Path.{_≡_, sym, ap, ap₂, _∙_}
+use mathlib.Core.List.{List}
+use Prim.Native.Nat.{ℕ, _≤_}
 use native.Mathlib.Decide.{ℕ-discrete, decLt, decLe}
 use native.Mathlib.Omega.{arith}
-use lib.ListN.{length, length-append}
-use Rattle.residues.specs.Residues.{Words}
+use lib.ListN.{length, take, drop}
+use lib.Seq.{take-append-seam}
 use Rattle.definition.specs.Words.{one-list-of-words}
 use Rattle.definition.specs.Refusals.{refusal}
+use Rattle.resolvents.specs.Decided.{same-mark}
 use Rattle.records.specs.declared.Written.{Written}
 use Rattle.records.specs.Records.{Job, JobHolds, job-text, answer, answer-text}
 use Rattle.records.specs.Theorems.{is-job}
 use Rattle.linres_text.specs.Texts.{call, Answered, AnswerTo, TextOf}
 use Rattle.linres_text.specs.Promise.{Put, Puts}
-use Rattle.linres_text.specs.Jobs.{Good, good-exactly}
+use Rattle.linres_text.specs.Jobs.{Good, good-exactly, holds}
+use Rattle.linres_text.specs.Lengths.{job-length, answer-length, refused-short, refusal-at-most}
 
 -- ---- one text, one answer
--- two marks that say the same are equal
-same-mark : {P : Type 0} (a b : Bool) → (a ≡ true) ↔ P → (b ≡ true) ↔ P → a ≡ b
-same-mark true b f g = sym (g .1 (f .0 refl))
-same-mark false true f g = f .1 (g .0 refl)
-same-mark false false f g = refl
-
 answered-decides : (j : Job) → Good j → (a b : List ℕ) → Answered j a → Answered j b → a ≡ b
 answered-decides j g a b x y =
     let e : x .b ≡ y .b = one-list-of-words (g .modulus .prime) (j .coeffs) (j .weights) (omega (arith, g .list .high, g .modulus .low)) (g .below) _ _ (x .words) (y .words) (x .resolved) (y .resolved) in
@@ -63,3 +57,23 @@ within Right out r out′ p = elim (decLt (length out) (length (p .bytes))) [
   | yes l ↦ rw (p .put .row-14 l .0) (omega arith)
   | no n ↦ rw (p .put .success (omega arith) .0) (omega arith)
 ]
+
+-- ---- 11,313 bytes are enough
+answer-fits : (j : Job) (bytes : List ℕ) → AnswerTo j bytes → length bytes ≤ 11313
+answer-fits j bytes a = elim (ℕ-discrete (refusal (call j)) 0) [
+  | yes z ↦ let x = a .answered z in rw (x .text) (answer-length _ (holds j (good-exactly j .0 z) (x .mark) (x .b) (x .resolved .size) (x .words)))
+  | no n ↦ rw (a .refused n) (omega (arith, refused-short (refusal (call j)) (refusal-at-most (call j))))
+]
+
+pub fits : (text bytes : List ℕ) → TextOf text bytes → length bytes ≤ 11313
+fits text bytes t = elim (is-job text) [
+  | no n ↦ rw (t .none (λ j h e. n (j, h, e))) (omega (arith, refused-short 1 (omega arith)))
+  | yes i ↦ answer-fits (i .0) bytes (t .job (rw (i .2) (omega (arith, job-length (i .0) (i .1)))) (i .0) (i .1) (i .2))
+]
+
+-- so with as many bytes lent the code is 0, and what stands at the front is the answer
+pub written : (text out : List ℕ) (r : Written) (out′ : List ℕ) → 11313 ≤ length out → Puts (TextOf text) out r out′ → (r .code ≡ 0) × TextOf text (take (r .len) out′)
+written text out r out′ h p =
+    let room : length (p .bytes) ≤ length out = omega (arith, fits text (p .bytes) (p .right)) in
+    let w = p .put .success room in
+    (ap (λ (x : Written). x .code) (w .0), rw (w .0, w .1, take-append-seam (p .bytes) (drop (length (p .bytes)) out)) (p .right))

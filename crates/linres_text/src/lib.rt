@@ -1,12 +1,14 @@
 // From the text of a job to the text of its answer: all that the program `linres` does between reading and writing.
 use records::Written;
+use resolvents::Outcome;
 use weights::Weights;
 ghost use mathlib.Core.Path.{_≡_};
 ghost use lib.ListN.{length, take};
 ghost use Rattle.lines.specs.Lines.{refused-line};
 ghost use Rattle.records.specs.Records.{job};
+ghost use Rattle.resolvents.specs.Promise.{Promise, left};
 ghost use Rattle.weights.specs.Lists.{listed};
-ghost use Rattle.linres_text.specs.Texts.{TextOf, AnswerTo};
+ghost use Rattle.linres_text.specs.Texts.{TextOf, AnswerTo, asked};
 ghost use Rattle.linres_text.specs.Promise.{Put, Puts};
 
 // The first six weights, and how many there are.
@@ -26,6 +28,19 @@ fn first_six(weights: &[i32]) -> Weights
     Weights { places, len }
 }
 
+// The resolvent entry for weights in a slice, whose length is r. Of more than six weights row 6 makes a refusal, whatever they are.
+pub fn resolvent_for(
+    p: u32,
+    f: &[u32],
+    weights: &[i32],
+    out: &mut [u32],
+    work: &mut [u32],
+) -> Outcome
+    ensures { λ r. ⌜ Promise (asked p (now (f .entry)) (now (weights .entry)) (now (out .entry)) (now (work .entry))) (left r (now (out .exit)) (now (work .exit))) ⌝ }
+{
+    resolvents::resolvent(p, f, first_six(weights), out, work)
+}
+
 // Writes the line of a refusal.
 fn refuse(code: u32, out: &mut [u8]) -> Written
     ensures { λ r. ⌜ Put (refused-line code) (now (out .entry)) r (now (out .exit)) ⌝ }
@@ -37,15 +52,13 @@ fn refuse(code: u32, out: &mut [u8]) -> Written
     Written { code: 0, len }
 }
 
-// Writes the answer to a job. The rooms hold the largest N, and of more than six weights row 6 makes a refusal before any place
-// of the list is read.
+// Writes the answer to a job. The rooms hold the largest N.
 fn answer_job(p: u32, f: &[u32], weights: &[i32], out: &mut [u8]) -> Written
     ensures { λ r. ⌜ Puts (AnswerTo (job p (now (f .entry)) (now (weights .entry)))) (now (out .entry)) r (now (out .exit)) ⌝ }
 {
-    let list = first_six(weights);
     let mut output = [0u32; 1024];
     let mut work = [0u32; 12300];
-    let outcome = resolvents::resolvent(p, f, list, &mut output, &mut work);
+    let outcome = resolvent_for(p, f, weights, &mut output, &mut work);
     let code = outcome.code;
     if code != 0 {
         return refuse(code, out);

@@ -1,7 +1,8 @@
 -- `refuse` meets its contract: the line has nine bytes beside the number's digits.
 use native.Mathlib.Omega.{arith}
 use borrow.Author.Needs.{needs}
-use Rattle.linres_text.proofs.Writing.{no-room, written, refused-length}
+use Rattle.linres_text.specs.Lengths.{refused-length}
+use Rattle.linres_text.proofs.Writing.{no-room, written}
 use Rattle.linres_text.proofs.refuse.Statement.{statement}
 use Rattle.linres_text.proofs.refuse.Tie as tie
 
