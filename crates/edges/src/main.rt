@@ -1,5 +1,7 @@
-// Document 01's cases A to L and the calls at its edges, through the resolvent entry. Each line tells what came back: the code, N,
-// the mark and the first words of output.
+// Document 01's cases A to L and the calls at its edges, through the resolvent entry, and then as texts. Each line tells what came
+// back: the code, N, the mark and the first words of output.
+mod texts;
+
 use resolvents::Outcome;
 use weights::Weights;
 
@@ -212,4 +214,5 @@ fn main() {
     places();
     say(b"-- room\n");
     room();
+    texts::all();
 }
