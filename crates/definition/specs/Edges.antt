@@ -53,7 +53,8 @@ pub around-257 : map outcome (call 257 (zeros 10) (ones 5) ∷ call 257 (zeros 8
 unfolding outcome
 around-257 = refl
 
--- modulus 251 with a weight 0 gets 2; coefficient 257 with no weights, at 257, gets 5; the weight 0 gets 8
-pub orders : map (λ c. outcome c .1) (call 251 (zeros 4) (pos 0 ∷ []) ∷ call 257 (257 ∷ []) [] ∷ call 257 (zeros 4) (pos 0 ∷ []) ∷ []) ≡ 2 ∷ 5 ∷ 8 ∷ []
+-- modulus 251 with a weight 0 gets 2; coefficient 257 with no weights, at 257, gets 5; three weights 0 on two coefficients get 7; the
+-- weight 0 gets 8
+pub orders : map (λ c. outcome c .1) (call 251 (zeros 4) (pos 0 ∷ []) ∷ call 257 (257 ∷ []) [] ∷ call 257 (zeros 2) (replicate 3 (pos 0)) ∷ call 257 (zeros 4) (pos 0 ∷ []) ∷ []) ≡ 2 ∷ 5 ∷ 7 ∷ 8 ∷ []
 unfolding outcome
 orders = refl

@@ -4,14 +4,16 @@ use mathlib.Core.Path.{_≡_, refl, sym, ap, _∙_}
 use mathlib.Core.Bool.{Bool, true, false}
 use mathlib.Core.List.{List, [], _∷_, List·Memᴰ, List·Memᴰ·head, List·Memᴰ·tail}
 use Prim.Native.Nat.{ℕ, zero, suc, _<_}
-use native.Mathlib.Nat as N
+use native.Mathlib.Nat.{le-of-eq}
 use native.Mathlib.Omega.{arith}
-use lib.ListN.{length, getD, take, replicate, length-replicate}
+use lib.ListN.{length, getD, take, drop, replicate, length-replicate}
 use lib.IntN.{ℤ, pos}
 use Rattle.algebra.specs.Integer.{ℤ-eq}
 use Rattle.placements.specs.Placements.{placements}
 use Rattle.polynomials.specs.Certificates.{bezout}
-use Rattle.definition.specs.Refusals.{Call, weights, room, Accepted}
+use Rattle.definition.specs.Refusals.{Call, weights, N, room, Accepted}
+use Rattle.definition.specs.Table.{not-refused}
+use Rattle.definition.specs.Edges.{outcome, outcome-is}
 use Rattle.definition.specs.Cases.{Row, rows, call}
 use Rattle.resolvents.specs.Promise.{Exit, Promise}
 use Rattle.resolvents.specs.Demands.{Answers, case-numbers, success-exactly, count-placements}
@@ -36,7 +38,7 @@ in-table (x ∷ xs) d (suc i) h = List·Memᴰ·tail (in-table xs d i (omega ari
 module _ (entry : Call → Exit) (keeps : Keeps entry) where
   at : (i : ℕ) → i < 12 → Answers (case i) (entry (ask i))
   unfolding rows
-  at i h = case-numbers (case i) (in-table rows _ i h) [] _ _ (N.le-of-eq (sym (length-replicate _ 1))) (N.le-of-eq (sym (length-replicate _ 1))) _ (keeps (ask i))
+  at i h = case-numbers (case i) (in-table rows _ i h) [] _ _ (le-of-eq (sym (length-replicate _ 1))) (le-of-eq (sym (length-replicate _ 1))) _ (keeps (ask i))
 
   -- one that refuses everything: A is taken
   pub refuses-everything : ((c : Call) → entry c .outcome .code ≡ 0 → ⊥) → ⊥
@@ -84,6 +86,26 @@ module _ (entry : Call → Exit) (keeps : Keeps entry) where
       let y : _≡_ {A = ℕ} 0 1 = cc in
       absurd (omega arith)
 
--- and a made-up N at any call: a success counts the placements
-pub made-up-number-anywhere : (c : Call) (e : Exit) → Accepted c → (e .outcome .count ≡ length (placements ℤ-eq (length (c .f)) (weights c)) → ⊥) → Promise c e → ⊥
-made-up-number-anywhere c e a wrong q = wrong (count-placements c e q (success-exactly c e q .1 a))
+  -- row 8 before row 7: three weights 0 on two coefficients get 7
+  abbrev mixed : Call
+  mixed = record { p = 257; f = 0 ∷ 0 ∷ []; places = replicate 3 (pos 0); r = 3; output = []; work = [] }
+
+  pub row-8-before-row-7 : entry mixed .outcome .code ≡ 8 → ⊥
+  unfolding outcome
+  row-8-before-row-7 h =
+      let z : _≡_ {A = ℕ} 7 8 = ap (λ (o : ℕ × ℕ). o .1) (outcome-is mixed) ∙ sym (keeps mixed .code) ∙ h in
+      absurd (omega (arith, z))
+
+-- and at any call that is taken
+module _ (c : Call) (e : Exit) (a : Accepted c) (q : Promise c e) where
+  -- a made-up N: the count is that of the placements
+  pub made-up-number-anywhere : (e .outcome .count ≡ length (placements ℤ-eq (length (c .f)) (weights c)) → ⊥) → ⊥
+  made-up-number-anywhere wrong = wrong (count-placements c e q (success-exactly c e q .1 a))
+
+  -- an output word past the N-th changed
+  pub later-word-changed : (k : ℕ) → (getD (drop (N c) (e .output)) k 0 ≡ getD (drop (N c) (c .output)) k 0 → ⊥) → ⊥
+  later-word-changed k wrong = wrong (ap (λ l. getD l k 0) (q .done (not-refused c .1 a) .later))
+
+  -- the work room left as it is
+  pub work-room-left : (take (room (N c)) (e .work) ≡ replicate (room (N c)) 0 → ⊥) → ⊥
+  work-room-left wrong = wrong (q .done (not-refused c .1 a) .zeros)
