@@ -1,18 +1,23 @@
 /* drive P C1,C2,.. W1,W2,.. : works one job in this process and prints, for each contender, its
-   name, the least time of one call in seconds, and b1 to bN. Compiled with -DLINRES=NAME and the
-   library's archive, the library is a contender beside plain.c. */
+   name, the least time of one call in seconds, and b1 to bN. */
 #include <stdio.h>
 #include <stdlib.h>
 #include <string.h>
 #include <time.h>
+#include "../bindings/linres.h"
 #include "plain.h"
 
 typedef int contender(uint32_t p, const uint32_t *c, size_t n, const int32_t *w, size_t r, uint32_t *out);
 
-#ifdef LINRES
-/* The library's function, in plain_resolvent's form. */
-contender LINRES;
-#endif
+/* The exported entry, in plain_resolvent's form. */
+static int linres(uint32_t p, const uint32_t *c, size_t n, const int32_t *w, size_t r, uint32_t *out)
+{
+    static uint32_t work[LINRES_WORK];
+    size_t count;
+    uint32_t simple;
+    linres_resolvent(p, c, n, w, r, out, LINRES_OUTPUT, work, LINRES_WORK, &count, &simple);
+    return (int)count;
+}
 
 static double now(void)
 {
@@ -61,9 +66,7 @@ int main(int argc, char **argv)
     size_t r = numbers(argv[3], values, MAX_WEIGHTS);
     for (size_t i = 0; i < r; i++)
         w[i] = values[i];
-#ifdef LINRES
-    measure("linres", LINRES, p, c, n, w, r);
-#endif
+    measure("linres", linres, p, c, n, w, r);
     measure("plain", plain_resolvent, p, c, n, w, r);
     return 0;
 }
