@@ -77,9 +77,9 @@ pub fn answer_text(text: &[u8], out: &mut [u8]) -> Written
     let mut coeffs = [0u32; 64];
     let mut weights = [0i32; 64];
     let job = records::read_job(text, &mut coeffs, &mut weights);
-    let code = job.code;
-    if code != 0 {
-        return refuse(code, out);
+    let row = job.code;
+    if row != 0 {
+        return refuse(row, out);
     }
     let n = job.degree;
     let r = job.weights;
