@@ -60,7 +60,7 @@ fn cases() {
     );
 }
 
-fn edges() {
+fn moduli() {
     ask(b"251", b"modulus=251\ndegree=2\ncoeffs=0,1\nweights=1\n");
     ask(b"257", b"modulus=257\ndegree=2\ncoeffs=0,1\nweights=1\n");
     ask(b"259", b"modulus=259\ndegree=2\ncoeffs=0,1\nweights=1\n");
@@ -72,6 +72,9 @@ fn edges() {
         b"2147483648",
         b"modulus=2147483648\ndegree=2\ncoeffs=0,1\nweights=1\n",
     );
+}
+
+fn numbers() {
     ask(
         b"924 at 257",
         b"modulus=257\ndegree=12\ncoeffs=1,2,3,4,5,6,7,8,9,10,11,12\nweights=1,1,1,1,1,1\n",
@@ -163,7 +166,8 @@ pub fn all() {
     say(b"-- cases as texts\n");
     cases();
     say(b"-- edges as texts\n");
-    edges();
+    moduli();
+    numbers();
     say(b"-- seven weights as texts\n");
     seven_weights();
     say(b"-- texts that are no job\n");
