@@ -7,7 +7,7 @@ use mathlib.Core.Logic.{_↔_}
 use Prim.Native.Nat.{ℕ, _≤_, _<_}
 use native.Mathlib.Decide.{ℕ-discrete}
 use native.Mathlib.Omega.{arith}
-use lib.ListN.{length}
+use lib.ListN.{length, getD}
 use lib.IntN.{ℤ}
 use Rattle.algebra.specs.Integer.{ℤ-eq}
 use Rattle.residues.specs.Prime.{prime-positive}
@@ -22,8 +22,8 @@ use Rattle.definition.specs.Words.{split-words, values-below}
 use Rattle.definition.specs.Answer.{resolvent, resolvent-right, resolvent-below, resolvent-only}
 use Rattle.definition.specs.Refusals.{checks, refusal}
 use Rattle.definition.specs.Table.{row, row-exactly}
-use Rattle.lines.specs.Lines.{refused-line}
-use Rattle.records.specs.Records.{Job, JobHolds, job, job-text, answer, answer-text}
+use Rattle.lines.specs.Lines.{bytes, head-text, refused-line}
+use Rattle.records.specs.Records.{Answer, Job, JobHolds, job, job-text, answer, answer-text}
 use Rattle.records.specs.Theorems.{is-job, job-one-spelling}
 use Rattle.linres_text.specs.Texts.{call, Answered, AnswerTo, TextOf}
 use Rattle.linres_text.specs.Jobs.{Good, good-exactly, good-holds}
@@ -72,6 +72,11 @@ every-text text = elim (is-job text) [
   | yes i ↦ let a = job-exists (i .0) in (a .0, of-job text (a .0) (i .0) (i .1) (i .2) (a .1))
 ]
 
+-- an answer starts with an m, a refusal with an r
+never-both : (a : Answer) (k : ℕ) → answer-text a ≡ refused-line k → ⊥
+unfolding answer-text head-text refused-line bytes
+never-both a k e = let z : _≡_ {A = ℕ} 109 114 = ap (λ (l : List ℕ). getD l 0 0) e in omega arith
+
 module _ (text bytes : List ℕ) (t : TextOf text bytes) where
   -- a text that is no job is refused with 1
   pub no-job : ((j : Job) → JobHolds j → text ≡ job-text j → ⊥) → bytes ≡ refused-line 1
@@ -102,6 +107,19 @@ module _ (text bytes : List ℕ) (t : TextOf text bytes) where
     -- the degree is the number of the placements
     pub degree-is : length (answered .b) ≡ length (placements ℤ-eq (length (j .coeffs)) (j .weights))
     degree-is = answered .resolved .size ∙ sym (placed-number (length (j .coeffs)) (j .weights))
+
+  -- an answer record comes back exactly for the jobs that break no row, so never for what is refused
+  pub answered-exactly : ((a : Answer) × (bytes ≡ answer-text a)) ↔ ((j : Job) × Good j × (text ≡ job-text j))
+  answered-exactly = (
+    λ a. elim (is-job text) [
+      | no n ↦ absurd (never-both (a .0) 1 (sym (a .1) ∙ no-job (λ j h e. n (j, h, e))))
+      | yes i ↦ elim (ℕ-discrete (refusal (call (i .0))) 0) [
+        | yes z ↦ (i .0, good-exactly (i .0) .0 z, i .2)
+        | no n ↦ absurd (never-both (a .0) _ (sym (a .1) ∙ answer-to (i .0) (i .1) (i .2) .refused n))
+      ]
+    ],
+    λ g. let x = answered (g .0) (g .1) (g .2) in (answer (g .0 .modulus) (x .mark) (x .b), x .text),
+  )
 
 -- ---- Demand 3: where f is the product of x - a over any residues a, equal or not, the answer's coefficients are the product of
 -- x - v over the weighted sums v of all placements
