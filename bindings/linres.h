@@ -10,7 +10,8 @@
    - no other thread uses them during the call.
 
    Every call that keeps this is answered or refused; there is nothing else to test. The functions keep no state, so any
-   number of threads may call them. A call takes less than 100 KB of stack. */
+   number of threads may call them. The program linres ran in 96 KB of stack and not in 80; that is a measurement, nothing is
+   proved of it. */
 #ifndef LINRES_H
 #define LINRES_H
 #include <stddef.h>
@@ -23,8 +24,8 @@ enum { LINRES_OUTPUT = 1024, LINRES_WORK = 12 * (LINRES_OUTPUT + 1), LINRES_TEXT
    and its length comes back. 0 comes back where out is too short, and out is as it was; LINRES_TEXT bytes are always enough. */
 size_t linres_answer_text(const uint8_t *text, size_t text_len, uint8_t *out, size_t out_len);
 
-/* The resolvent of f = x^n + f[0] x^(n-1) + .. for the r weights, modulo p. The number of document 01's table comes back (2 to 12),
-   or 0. At 0, *count is N, *simple is 1 (yes) or 0 (no), the first N words of out are b1 to bN, the first 12(N + 1) words of work
+/* The resolvent of f = x^n + f[0] x^(n-1) + .. for the r weights, modulo p. The number of document 01's table comes back (2 to 12,
+   or 16), or 0. At 0, *count is N, *simple is 1 (yes) or 0 (no), the first N words of out are b1 to bN, the first 12(N + 1) words of work
    are 0, and later words of both are as they were. Else *count and *simple are 0, and out and work are as they were. */
 uint32_t linres_resolvent(uint32_t p, const uint32_t *f, size_t n, const int32_t *weights, size_t r, uint32_t *out,
                           size_t out_len, uint32_t *work, size_t work_len, size_t *count, uint32_t *simple);
