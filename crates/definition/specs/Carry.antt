@@ -21,14 +21,14 @@ module _ {A B : Type 0} {o : Ops A} {q : Ops B} {φ : A → B} (m : Hom o q φ) 
   unfolding sum₁
   hom-sum₁ n g = hom-sum m n (λ i. g (suc i))
 
-  hom-Rule₂ : (s : ℕ → A) (t : List ℤ → ℕ → A) → Rule₂ o s t → Rule₂ q (λ i. φ (s i)) (λ L k. φ (t L k))
+  pub hom-Rule₂ : (s : ℕ → A) (t : List ℤ → ℕ → A) → Rule₂ o s t → Rule₂ q (λ i. φ (s i)) (λ L k. φ (t L k))
   hom-Rule₂ s t h = record {
     empty = ap φ (h .empty) ∙ m .at-one;
     empty-later = λ k b. ap φ (h .empty-later k b) ∙ m .at-zero;
     longer = λ e M k. simp (m .at-add, m .at-neg, m .at-mul, hom-nat m, hom-pow m, hom-int m, hom-sum m) at (ap φ (h .longer e M k));
   }
 
-  hom-Rule₁ : (c : List A) (n : ℕ) (s : ℕ → A) → Rule₁ o c n s → Rule₁ q (map φ c) n (λ k. φ (s k))
+  pub hom-Rule₁ : (c : List A) (n : ℕ) (s : ℕ → A) → Rule₁ o c n s → Rule₁ q (map φ c) n (λ k. φ (s k))
   hom-Rule₁ c n s h = record {
     zeroth = ap φ (h .zeroth) ∙ hom-nat m (length c) ∙ ap (nat q) (sym (length-map c φ));
     low = λ k a b d. simp (m .at-neg, m .at-add, m .at-mul, hom-nat m, hom-nth, hom-sum₁) at (ap φ (h .low k a (omega (arith, length-map c φ)) d));

@@ -29,7 +29,7 @@ unfolding listed
 length-listed zero g = refl
 length-listed (suc n) g = ap suc (length-listed n (λ i. g (suc i)))
 
-getD-listed : {A : Type 0} (n : ℕ) (g : ℕ → A) (d : A) (i : ℕ) → i < n → getD (listed n g) i d ≡ g (suc i)
+pub getD-listed : {A : Type 0} (n : ℕ) (g : ℕ → A) (d : A) (i : ℕ) → i < n → getD (listed n g) i d ≡ g (suc i)
 unfolding listed
 getD-listed zero g d i h = absurd (omega arith)
 getD-listed (suc n) g d zero h = refl

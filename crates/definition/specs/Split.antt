@@ -54,7 +54,7 @@ module _ {A : Type 0} {o : Ops A} (l : Laws o) where
   T-layings rs L k = layings-up-to rs (length L) L (omega arith) k
 
   -- and the product of m! times the sum over all placements
-  T-placements : (rs : List A) (L : List ℤ) (k : ℕ) → nat o (factorials ℤ-eq L) ⊗ power-sum o (values o rs L) k ≡ T o (power-sum o rs) L k
+  pub T-placements : (rs : List A) (L : List ℤ) (k : ℕ) → nat o (factorials ℤ-eq L) ⊗ power-sum o (values o rs L) k ≡ T o (power-sum o rs) L k
   unfolding values power-sum
   T-placements rs L k =
       ap (λ x. nat o (factorials ℤ-eq L) ⊗ x) (total-map o (value o (int o) rs) (placements ℤ-eq (length rs) L) (λ v. pow o v k))

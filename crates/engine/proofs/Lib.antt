@@ -1,7 +1,6 @@
-pub mod Laws
-pub mod Lent
 pub mod Lists
+pub mod Zeros
 pub mod Collisions
+pub mod Longer
 pub mod Ends
-pub mod Terms
 pub mod Joined

@@ -1,4 +1,3 @@
 pub mod Hat
-pub mod Rows
-pub mod Newton
+pub mod Worked
 pub mod Answered

@@ -1,27 +1,31 @@
 -- Demands 1 to 3, of the text that answers a text. The table of refusals is read row by row, rules 1 to 4 have one answer, and
--- where f is a product of x - a that answer is the product over the placements.
+-- where f is a product of x - a, in whatever ring over the residues, that answer is the product over the placements.
 use mathlib.Core.Path.{_≡_, refl, sym, ap, _∙_}
 use mathlib.Core.Bool.{Bool, true, false}
-use mathlib.Core.List.{List}
+use mathlib.Core.List.{List, map}
 use mathlib.Core.Logic.{_↔_}
 use Prim.Native.Nat.{ℕ, _≤_, _<_}
 use native.Mathlib.Decide.{ℕ-discrete}
 use native.Mathlib.Omega.{arith}
 use lib.ListN.{length, getD}
 use lib.IntN.{ℤ}
+use Rattle.algebra.specs.Ring.{Ops, Laws}
+use Rattle.algebra.specs.Hom.{Hom}
 use Rattle.algebra.specs.Integer.{ℤ-eq}
 use Rattle.residues.specs.Prime.{prime-positive}
 use Rattle.residues.specs.Residues.{residues, Words}
+use Rattle.residues.specs.Field.{below-apart}
 use Rattle.placements.specs.Placements.{placements}
 use Rattle.placements.specs.Number.{placed-number}
 use Rattle.polynomials.specs.Bezout.{decide-simple}
 use Rattle.polynomials.specs.Divisors.{Simple}
 use Rattle.definition.specs.Definition.{Resolvent}
 use Rattle.definition.specs.Roots.{product, values}
-use Rattle.definition.specs.Words.{split-words, values-below}
+use Rattle.definition.specs.Words.{factorials-apart, split-words, values-below}
 use Rattle.definition.specs.Answer.{resolvent, resolvent-right, resolvent-below, resolvent-only}
 use Rattle.definition.specs.Refusals.{checks, refusal}
 use Rattle.definition.specs.Table.{row, row-exactly}
+use Rattle.lists_end.specs.Words.{words-product}
 use Rattle.lines.specs.Lines.{bytes, head-text, refused-line}
 use Rattle.records.specs.Records.{Answer, Job, JobHolds, job, job-text, answer, answer-text}
 use Rattle.records.specs.Theorems.{is-job, job-one-spelling}
@@ -135,3 +139,14 @@ module _ (p : ℕ) (roots : List ℕ) (low : Words p roots) (L : List ℤ) where
       let a = answered (job-text split-job) bytes t split-job g refl in
       let same = coefficients-only (job-text split-job) bytes t split-job g refl _ (values-below positive roots low L) (split-words positive roots low L) in
       (a .mark, a .simple, a .text ∙ ap (λ l. answer-text (answer p (a .mark) l)) same)
+
+-- Demand 3 for every f: in whatever ring q over the residues f is the product of x - a, the answer's coefficients are there the
+-- product of x - v over the weighted sums v of all placements. φ takes a word to its number in q, and keeps sums and products.
+pub coefficients-anywhere : (text bytes : List ℕ) (t : TextOf text bytes) (j : Job) (g : Good j) (e : text ≡ job-text j)
+    → {B : Type 0} {q : Ops B} → Laws q → {φ : ℕ → B} → Hom (residues (j .modulus)) q φ → (roots : List B) → map φ (j .coeffs) ≡ product q roots
+    → map φ (answered text bytes t j g e .b) ≡ product q (values q roots (j .weights))
+coefficients-anywhere text bytes t j g e l hom roots f =
+    words-product (g .modulus .prime) l hom (j .coeffs) roots f (j .weights)
+    (factorials-apart (g .modulus .prime) (j .weights) (few j g))
+    (λ k a h. below-apart (g .modulus .prime) k a (omega (arith, g .below)))
+    _ (answered text bytes t j g e .resolved)

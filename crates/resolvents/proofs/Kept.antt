@@ -22,12 +22,17 @@ use Rattle.resolvents.proofs.Judging.{listed-is}
 pub refused-kept : (c : Call) (k : ℕ) → k ≡ refusal c → (k ≡ 0 → ⊥) → Promise c (left (record { code = k; count = 0; simple = false }) (c .output) (c .work))
 refused-kept c k e n = record { code = e; refused = λ z. record { count = refl; simple = refl; output = refl; work = refl }; done = λ z. absurd (n (e ∙ z)) }
 
-module _ (p : ℕ) (f : List ℕ) (list : Weights) (out work : List ℕ) (j : Judgement) (judged : Judged (given p f list out work) j) (zero : j .code ≡ 0) where
+-- where the entry goes on: the call was judged, and no row refuses it
+pub record Going (p : ℕ) (f : List ℕ) (list : Weights) (out work : List ℕ) (j : Judgement) : Type 0 where
+  pub judged : Judged (given p f list out work) j
+  pub zero : j .code ≡ 0
+
+module _ {p : ℕ} {f : List ℕ} {list : Weights} {out work : List ℕ} {j : Judgement} (g : Going p f list out work j) where
   abbrev c : Call
   c = given p f list out work
 
   none : refusal c ≡ 0
-  none = sym (judged .code) ∙ zero
+  none = sym (g .judged .code) ∙ g .zero
 
   pub accepted : Accepted c
   accepted = not-refused c .0 none
@@ -37,24 +42,24 @@ module _ (p : ℕ) (f : List ℕ) (list : Weights) (out work : List ℕ) (j : Ju
 
   pub counted : Counted p f (listed list) (j .count) (j .product)
   counted = rw (listed-is list) (record {
-    number = judged .count none;
-    high = rw (judged .count none) (accepted .rooms .high);
-    below = rw (judged .count none) (accepted .rooms .below);
-    factor = judged .product none;
-    apart = rw (judged .product none) (accepted .divisors .product-apart);
+    number = g .judged .count none;
+    high = rw (g .judged .count none) (accepted .rooms .high);
+    below = rw (g .judged .count none) (accepted .rooms .below);
+    factor = g .judged .product none;
+    apart = rw (g .judged .product none) (accepted .divisors .product-apart);
   })
 
   pub output-room : j .count ≤ length out
-  output-room = rw (judged .count none) (accepted .rooms .output-fits)
+  output-room = rw (g .judged .count none) (accepted .rooms .output-fits)
 
   pub work-room : 12 * (j .count + 1) ≤ length work
-  work-room = rw (judged .count none) (accepted .rooms .work-fits)
+  work-room = rw (g .judged .count none) (accepted .rooms .work-fits)
 
   pub done-kept : (simple : Bool) (out' mid work' : List ℕ) → (simple ≡ true) ↔ Simple p f
       → Answered p f (listed list) (j .count) out out' work mid → Cleared (12 * (j .count + 1)) mid work'
       → Promise c (left (record { code = 0; count = j .count; simple = simple }) out' work')
   done-kept simple out' mid work' mark a z =
-      let n : j .count ≡ N c = judged .count none in
+      let n : j .count ≡ N c = g .judged .count none in
       let a' : Answered p f (weights c) (N c) out out' work mid = rw (listed-is list, n) at a in
       let z' : Cleared (room (N c)) mid work' = rw n at z in
       record {

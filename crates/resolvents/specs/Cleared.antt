@@ -6,7 +6,7 @@ use native.Mathlib.Numerals.{add-one}
 use native.Mathlib.Omega.{arith}
 use lib.ListN.{length, take, drop, set, replicate, length-set, replicate-append-replicate}
 use lib.Seq.{take-suc-set, drop-set-lt}
-use Rattle.engine.specs.Rows.{drop-more}
+use Rattle.rows.specs.Rows.{drop-more}
 
 pub record Cleared (m : ℕ) (before after : List ℕ) : Type 0 where
   pub same : length after ≡ length before

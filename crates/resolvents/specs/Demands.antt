@@ -1,6 +1,6 @@
 -- What a reader may conclude from the entry's promise, at any exit that it allows. The definition's theorems carry each demand:
 -- the table of refusals is read row by row, an accepted call has one resolvent, and where f is a product of x - a that resolvent
--- is the product over the placements.
+-- is the product over the placements. Every f is such a product in some ring over the residues.
 use mathlib.Core.Path.{_≡_, refl, sym, ap, ap₂, _∙_}
 use mathlib.Core.Bool.{Bool, true, false}
 use mathlib.Core.List.{List, [], _∷_, map, List·Memᴰ, List·Memᴰ·head, List·Memᴰ·tail, Memᴰ·cast}
@@ -10,6 +10,8 @@ use native.Mathlib.Decide.{ℕ-discrete}
 use lib.ListN.{length, take}
 use lib.Seq.{take-append-seam}
 use lib.IntN.{ℤ}
+use Rattle.algebra.specs.Ring.{Ops, Laws}
+use Rattle.algebra.specs.Hom.{Hom}
 use Rattle.algebra.specs.Integer.{ℤ-eq}
 use Rattle.residues.specs.Prime.{prime-positive}
 use Rattle.residues.specs.Residues.{residues, Words}
@@ -24,6 +26,7 @@ use Rattle.definition.specs.Refusals.{Call, weights, N, room, modulus-checks, p
 use Rattle.definition.specs.Table.{row, row-exactly, not-refused}
 use Rattle.definition.specs.Accepted.{accepted-only}
 use Rattle.definition.specs.Cases.{Row, mark, rows, call, Holds, table}
+use Rattle.lists_end.specs.Words.{words-product, RootRing, root-ring}
 use Rattle.resolvents.specs.Promise.{Exit, Refused, Done, Promise}
 use Rattle.resolvents.specs.Decided.{same-mark}
 
@@ -91,6 +94,18 @@ module _ (c : Call) (e : Exit) (q : Promise c e) where
     output-product roots low f =
         let positive = prime-positive (success-exactly .0 success .modulus .prime) in
         output-only _ (values-below positive roots low (weights c)) (rw f (split-words positive roots low (weights c)))
+
+    -- Demand 3 for every f: in whatever ring q over the residues f is the product of x - a, the output is there the product of x - v
+    -- over the weighted sums v of all placements. φ takes a word to its number in q, and keeps sums and products.
+    pub output-product-anywhere : {B : Type 0} {q : Ops B} → Laws q → {φ : ℕ → B} → Hom (residues (c .p)) q φ → (roots : List B) → map φ (c .f) ≡ product q roots
+        → map φ (take (N c) (e .output)) ≡ product q (values q roots (weights c))
+    output-product-anywhere l hom roots f =
+        let a : Accepted c = success-exactly .0 success in
+        words-product (a .modulus .prime) l hom (c .f) roots f (weights c) (a .divisors .product-apart) (a .divisors .each-apart) _ output-resolvent
+
+    -- and there is such a ring for every f, where words below p that differ still differ, so that the product there tells the output
+    pub splits-somewhere : RootRing (c .p) (c .f)
+    splits-somewhere = root-ring (success-exactly .0 success .modulus .prime) (c .f)
 
 -- two calls with the same job and as much room: places after the r-th and what stands in the lent words may differ
 pub record Alike (c c' : Call) : Type 0 where

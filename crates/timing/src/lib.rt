@@ -1,8 +1,9 @@
 // What bench/ measures, for C to call.
 ghost use mathlib.Core.Path.{_≡_};
-ghost use Prim.Native.Nat.{_-_};
-ghost use lib.ListN.{getD};
+ghost use Prim.Native.Nat.{_+_, _-_, _≤_};
+ghost use lib.ListN.{length, getD};
 ghost use Rattle.algebra.specs.Sum.{sum};
+ghost use Rattle.halves.specs.Halves.{Halved, Widened, Halves, whole};
 ghost use Rattle.residues.specs.Promises.{InRange};
 ghost use Rattle.residues.specs.Residues.{residues};
 
@@ -34,4 +35,37 @@ pub extern "C" fn linres_inner_product(
         return 0;
     }
     residues::inner_product(p, a, b, terms, last)
+}
+
+// The inner product in halves, and what it works on. C must keep to what each asks.
+#[no_mangle]
+pub extern "C" fn linres_halve(row: &[u32], m: usize, low: &mut [u64], high: &mut [u64])
+    requires { ⌜ (m ≤ length (now row)) × (m ≤ length (now low)) × (m ≤ length (now high)) ⌝ }
+    ensures { λ _. ⌜ Halved (now (row .entry)) m (now (low .entry)) (now (low .exit)) (now (high .entry)) (now (high .exit)) ⌝ }
+{
+    halves::halve(row, m, low, high)
+}
+
+#[no_mangle]
+pub extern "C" fn linres_widen(row: &[u32], m: usize, wide: &mut [u64])
+    requires { ⌜ (m ≤ length (now row)) × (m ≤ length (now wide)) ⌝ }
+    ensures { λ _. ⌜ Widened (now (row .entry)) m (now (wide .entry)) (now (wide .exit)) ⌝ }
+{
+    halves::widen(row, m, wide)
+}
+
+#[no_mangle]
+pub extern "C" fn linres_inner_halves(
+    p: u32,
+    low: &[u64],
+    high: &[u64],
+    from: usize,
+    wide: &[u64],
+    at: usize,
+    terms: usize,
+) -> u32
+    requires { ⌜ Halves p (now low) (now high) from (now wide) at terms ⌝ }
+    ensures { λ r. ⌜ r ≡ sum (residues p) terms (λ i. residues p .mul (getD (now (wide .entry)) (at + i) 0) (whole (now (low .entry)) (now (high .entry)) (from + i))) ⌝ }
+{
+    halves::inner_halves(p, low, high, from, wide, at, terms)
 }

@@ -1,0 +1,5 @@
+pub mod Anywhere
+pub mod Zeros
+pub mod GoesOn
+pub mod Modulo
+pub mod Words

@@ -1,0 +1,4 @@
+pub mod Stored
+pub mod Terms
+pub mod Inner
+pub mod Grown

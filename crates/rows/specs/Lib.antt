@@ -1,0 +1,5 @@
+pub mod Rows
+pub mod Newton
+pub mod Factorials
+pub mod Extension
+pub mod Lent

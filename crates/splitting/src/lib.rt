@@ -1,0 +1,1 @@
+// Rings where a polynomial has all its roots are specifications only.
