@@ -1,11 +1,13 @@
 /* drive P C1,C2,.. W1,W2,.. : works one job in this process and prints, for each contender, its
-   name, the least time of one call in seconds, and b1 to bN. */
+   name, the least time of one call in seconds, and b1 to bN. With BEFORE defined, before_resolvent of
+   another build of the library is one of them; with FLINT defined, the two roads over FLINT are. */
 #include <stdio.h>
 #include <stdlib.h>
 #include <string.h>
 #include <time.h>
 #include "../bindings/linres.h"
 #include "plain.h"
+#include "with_flint.h"
 
 typedef int contender(uint32_t p, const uint32_t *c, size_t n, const int32_t *w, size_t r, uint32_t *out);
 
@@ -19,6 +21,44 @@ static int linres(uint32_t p, const uint32_t *c, size_t n, const int32_t *w, siz
     return (int)count;
 }
 
+#ifdef BEFORE
+__typeof__(linres_resolvent) before_resolvent;
+
+static int before(uint32_t p, const uint32_t *c, size_t n, const int32_t *w, size_t r, uint32_t *out)
+{
+    static uint32_t work[LINRES_WORK];
+    size_t count;
+    uint32_t simple;
+    before_resolvent(p, c, n, w, r, out, LINRES_OUTPUT, work, LINRES_WORK, &count, &simple);
+    return (int)count;
+}
+#endif
+
+struct entry {
+    const char *name;
+    contender *work;
+    long calls;                         /* in one batch */
+    double spent, best;                 /* in all; for one call */
+    int count;
+    uint32_t out[MAX_PLACEMENTS];
+};
+
+static struct entry entries[] = {
+    {.name = "linres", .work = linres},
+#ifdef BEFORE
+    {.name = "before", .work = before},
+#endif
+    {.name = "plain", .work = plain_resolvent},
+#ifdef FLINT
+    {.name = "FLINT/series", .work = flint_series},
+    {.name = "FLINT/factors", .work = flint_factors},
+#endif
+};
+
+enum { ENTRIES = sizeof entries / sizeof *entries, LEAST = 3, ROUNDS = 40 };
+
+static const double BATCH = 20e-6, TURN = 25e-3, ENOUGH = 1;
+
 static double now(void)
 {
     struct timespec t;
@@ -26,22 +66,44 @@ static double now(void)
     return t.tv_sec + t.tv_nsec * 1e-9;
 }
 
-/* At least three calls, and more until half a second has passed. */
-static void measure(const char *name, contender *work, uint32_t p, const uint32_t *c, size_t n,
-                    const int32_t *w, size_t r)
+/* Batches for the length of a turn, one at least. A batch that is too short for the clock is doubled
+   and not counted. */
+static void turn(struct entry *e, uint32_t p, const uint32_t *c, size_t n, const int32_t *w, size_t r)
 {
-    static uint32_t out[MAX_PLACEMENTS];
-    double begin = now(), best = 1e9;
-    int count = 0;
-    for (int calls = 0; calls < 3 || now() - begin < 0.5; calls++) {
+    double begin = now(), end;
+    do {
         double start = now();
-        count = work(p, c, n, w, r, out);
-        double spent = now() - start;
-        best = spent < best ? spent : best;
+        for (long call = 0; call < e->calls; call++)
+            e->count = e->work(p, c, n, w, r, e->out);
+        end = now();
+        double each = (end - start) / e->calls;
+        if (end - start < BATCH)
+            e->calls *= 2;
+        else if (each < e->best)
+            e->best = each;
+    } while (end - begin < TURN);
+    e->spent += end - begin;
+}
+
+/* All in turns, so that they meet the same machine: three turns for each, and more until a
+   second has passed. */
+static void measure(uint32_t p, const uint32_t *c, size_t n, const int32_t *w, size_t r)
+{
+    for (int i = 0; i < ENTRIES; i++) {
+        entries[i].calls = 1;
+        entries[i].best = 1e9;
     }
-    printf("%s %.9f ", name, best);
-    for (int k = 0; k < count; k++)
-        printf("%u%c", out[k], k + 1 < count ? ',' : '\n');
+    for (int round = 0; round < ROUNDS; round++)
+        for (int i = 0; i < ENTRIES; i++)
+            if (round < LEAST || entries[i].spent < ENOUGH)
+                turn(&entries[i], p, c, n, w, r);
+}
+
+static void print(const struct entry *e)
+{
+    printf("%s %.12f ", e->name, e->best);
+    for (int k = 0; k < e->count; k++)
+        printf("%u%c", e->out[k], k + 1 < e->count ? ',' : '\n');
 }
 
 static size_t numbers(char *text, long long *values, size_t most)
@@ -66,7 +128,8 @@ int main(int argc, char **argv)
     size_t r = numbers(argv[3], values, MAX_WEIGHTS);
     for (size_t i = 0; i < r; i++)
         w[i] = values[i];
-    measure("linres", linres, p, c, n, w, r);
-    measure("plain", plain_resolvent, p, c, n, w, r);
+    measure(p, c, n, w, r);
+    for (int i = 0; i < ENTRIES; i++)
+        print(&entries[i]);
     return 0;
 }
