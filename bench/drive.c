@@ -11,14 +11,19 @@
 
 typedef int contender(uint32_t p, const uint32_t *c, size_t n, const int32_t *w, size_t r, uint32_t *out);
 
-/* The exported entry, in plain_resolvent's form. */
-static int linres(uint32_t p, const uint32_t *c, size_t n, const int32_t *w, size_t r, uint32_t *out)
+/* An exported entry, in plain_resolvent's form. */
+static int entry_of(__typeof__(linres_resolvent) *entry, uint32_t p, const uint32_t *c, size_t n, const int32_t *w, size_t r, uint32_t *out)
 {
     static uint32_t work[LINRES_WORK];
     size_t count;
     uint32_t simple;
-    linres_resolvent(p, c, n, w, r, out, LINRES_OUTPUT, work, LINRES_WORK, &count, &simple);
+    entry(p, c, n, w, r, out, LINRES_OUTPUT, work, LINRES_WORK, &count, &simple);
     return (int)count;
+}
+
+static int linres(uint32_t p, const uint32_t *c, size_t n, const int32_t *w, size_t r, uint32_t *out)
+{
+    return entry_of(linres_resolvent, p, c, n, w, r, out);
 }
 
 #ifdef BEFORE
@@ -26,11 +31,7 @@ __typeof__(linres_resolvent) before_resolvent;
 
 static int before(uint32_t p, const uint32_t *c, size_t n, const int32_t *w, size_t r, uint32_t *out)
 {
-    static uint32_t work[LINRES_WORK];
-    size_t count;
-    uint32_t simple;
-    before_resolvent(p, c, n, w, r, out, LINRES_OUTPUT, work, LINRES_WORK, &count, &simple);
-    return (int)count;
+    return entry_of(before_resolvent, p, c, n, w, r, out);
 }
 #endif
 

@@ -1,5 +1,5 @@
 -- Maps that keep the operations, and what they keep besides. No law of either side is used.
-use mathlib.Core.Path.{_≡_, sym, ap, _∙_}
+use mathlib.Core.Path.{_≡_, ap, _∙_}
 use mathlib.Core.List.{List, [], _∷_, map}
 use Prim.Native.Nat.{ℕ, zero, suc}
 use lib.IntN.{ℤ}
@@ -15,6 +15,16 @@ pub record Hom {A B : Type 0} (o : Ops A) (q : Ops B) (φ : A → B) : Type 0 wh
   pub at-add : (x y : A) → φ (o .add x y) ≡ q .add (φ x) (φ y)
   pub at-mul : (x y : A) → φ (o .mul x y) ≡ q .mul (φ x) (φ y)
   pub at-neg : (x : A) → φ (o .neg x) ≡ q .neg (φ x)
+
+-- one map that keeps the operations after another
+pub hom-then : {A B C : Type 0} {o : Ops A} {q : Ops B} {r : Ops C} {φ : A → B} {ψ : B → C} → Hom o q φ → Hom q r ψ → Hom o r (λ a. ψ (φ a))
+hom-then {ψ = ψ} h k = record {
+  at-zero = ap ψ (h .at-zero) ∙ k .at-zero;
+  at-one = ap ψ (h .at-one) ∙ k .at-one;
+  at-add = λ x y. ap ψ (h .at-add x y) ∙ k .at-add _ _;
+  at-mul = λ x y. ap ψ (h .at-mul x y) ∙ k .at-mul _ _;
+  at-neg = λ x. ap ψ (h .at-neg x) ∙ k .at-neg _;
+}
 
 module _ {A B : Type 0} {o : Ops A} {q : Ops B} {φ : A → B} (m : Hom o q φ) where
   pub hom-pow : (x : A) (k : ℕ) → φ (pow o x k) ≡ pow q (φ x) k

@@ -159,12 +159,16 @@ abbrev pub Cancels : {A : Type 0} (o : Ops A) → A → Type 0
 Cancels {A} o x = (y z : A) → o .mul x y ≡ o .mul x z → y ≡ z
 
 module _ {A : Type 0} {o : Ops A} (s : Semi o) where
+  -- an inverse undoes what it is the inverse of
+  pub undo : (x y w : A) → o .mul x y ≡ o .one → o .mul x (o .mul y w) ≡ w
+  undo x y w e = sym (mul-assoc s x y w) ∙ ap (λ z. o .mul z w) e ∙ one-mul s w
+
   -- what has an inverse can be cancelled
   pub cancels : (x y : A) → o .mul x y ≡ o .one → Cancels o x
-  cancels x y e u v h = sym (undo u) ∙ ap (o .mul y) h ∙ undo v
+  cancels x y e u v h = sym (undo y x u back) ∙ ap (o .mul y) h ∙ undo y x v back
     where
-      undo : (w : A) → o .mul y (o .mul x w) ≡ w
-      undo w = sym (mul-assoc s y x w) ∙ ap (λ z. o .mul z w) (mul-comm s y x ∙ e) ∙ one-mul s w
+      back : o .mul y x ≡ o .one
+      back = mul-comm s y x ∙ e
 
 module _ {A : Type 0} {o : Ops A} (F : Field o) where
   -- no zero divisors

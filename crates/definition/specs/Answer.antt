@@ -100,16 +100,13 @@ module _ {A : Type 0} {o : Ops A} (l : Laws o) where
           (sum₁-cong o j _ _ (λ i u w. ap (λ x. nth o c i ⊗ x) (grow-more h (suc j) (suc m) 𝟘 (suc j - i) (omega arith) (omega arith)))
           ∙ ap (λ n. sum₁ o n (λ i. nth o c i ⊗ getD (grow h (suc m)) (suc j - i) 𝟘)) (omega arith))
 
-  undo : (n v x : A) → n ⊗ v ≡ 𝟙 → n ⊗ (v ⊗ x) ≡ x
-  undo n v x e = sym (R.mul-assoc (l .semi) n v x) ∙ ap (λ z. z ⊗ x) e ∙ R.one-mul (l .semi) x
-
   coefficients-right : (inv S : ℕ → A) (m k : ℕ) → nat o k ⊗ inv k ≡ 𝟙 → 1 ≤ k → k ≤ m
       → nat o k ⊗ nth o (coefficients o inv S m) k ≡ ⊖ (S k ⊕ sum₁ o (k - 1) (λ i. nth o (coefficients o inv S m) i ⊗ S (k - i)))
   unfolding coefficients next-coefficient
   coefficients-right inv S m zero e a b = absurd (omega arith)
   coefficients-right inv S m (suc j) e a b =
       ap (λ x. nat o (suc j) ⊗ x) (nth-suc o _ j ∙ getD-grow h m 𝟘 j (omega arith) ∙ ap (λ n. next-coefficient o inv S (suc n) (grow h j)) (length-grow h j))
-      ∙ undo _ _ _ e
+      ∙ R.undo (l .semi) _ _ _ e
       ∙ ap (λ x. ⊖ (S (suc j) ⊕ x)) (sum₁-cong o (suc j - 1) _ _ (λ i u w. ap (λ x. x ⊗ S (suc j - i)) (same i u (omega arith))))
     where
       h : List A → A
@@ -128,7 +125,7 @@ module _ {A : Type 0} {o : Ops A} (l : Laws o) where
     S = divided o inv (sums o c (placed (length c) L)) L;
     rule₁ = sums-right c _;
     rule₂ = T-meets o _;
-    rule₃ = λ k h. undo _ _ _ e;
+    rule₃ = λ k h. R.undo (l .semi) _ _ _ e;
     rule₄ = λ k a h. coefficients-right inv _ _ k (each k a h) a h;
     size = unfold coefficients in length-grow _ _;
   }

@@ -4,20 +4,21 @@
 use mathlib.Core.Path.{_≡_, sym, ap, _∙_}
 use mathlib.Core.List.{List, map, map-map}
 use Prim.Native.Nat.{ℕ, _≤_, _<_, _%_}
-use lib.ListN.{length}
+use native.Mathlib.Omega.{arith}
+use lib.ListN.{length, getD, length-map, List·getD-map}
+use lib.Seq.{ext-getD}
 use lib.IntN.{ℤ}
 use Rattle.algebra.specs.Ring.{Ops, Laws, Cancels, cancels}
 use Rattle.algebra.specs.Power.{nat}
-use Rattle.algebra.specs.Hom.{Hom, hom-nat}
+use Rattle.algebra.specs.Hom.{Hom, hom-then, hom-nat}
 use Rattle.algebra.specs.Integer.{ℤ-eq}
 use Rattle.residues.specs.Prime.{Prime, prime-positive}
-use Rattle.residues.specs.Residues.{residues, Z, ring, reduce, laws, reduce-hom, word-hom, word-reduce}
+use Rattle.residues.specs.Residues.{residues, Words, Z, ring, reduce, laws, reduce-hom, word-hom, word-reduce}
 use Rattle.residues.specs.Field.{inverse, nat-inverse}
 use Rattle.placements.specs.Multiplicity.{factorials}
 use Rattle.placements.specs.Number.{placed}
 use Rattle.definition.specs.Definition.{Resolvent}
 use Rattle.definition.specs.Roots.{product, values}
-use Rattle.splitting.specs.Extension.{hom-then}
 use Rattle.splitting.specs.Splitting.{Splitting, splitting}
 use Rattle.lists_end.specs.Anywhere.{resolvent-is}
 
@@ -65,3 +66,12 @@ root-ring {p} prime c = over (splitting (laws p (prime-positive prime)) (map (re
       roots = sp .roots;
       factors = sym (map-map (sp .ring .embed) (reduce p) c) ∙ sp .factors;
     }
+
+-- words below p are told by their numbers there
+pub words-told : {p : ℕ} {c : List ℕ} (s : RootRing p c) (a b : List ℕ) → Words p a → Words p b → map (s .embed) a ≡ map (s .embed) b → a ≡ b
+words-told s a b low low' e = ext-getD 0 a b long (λ i h.
+    s .injective _ _ (low i h) (low' i (omega (arith, long)))
+    (sym (List·getD-map (s .embed) a i 0) ∙ ap (λ xs. getD xs i (s .embed 0)) e ∙ List·getD-map (s .embed) b i 0))
+  where
+    long : length a ≡ length b
+    long = sym (length-map a (s .embed)) ∙ ap length e ∙ length-map b (s .embed)

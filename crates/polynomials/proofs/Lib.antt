@@ -1,4 +1,3 @@
 pub mod Fill
-pub mod Reverse
 pub mod Parts
 pub mod Division

@@ -1,4 +1,5 @@
 pub mod Divisors
+pub mod Reversed
 pub mod Bounds
 pub mod Euclid
 pub mod Carried

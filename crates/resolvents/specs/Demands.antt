@@ -26,7 +26,7 @@ use Rattle.definition.specs.Refusals.{Call, weights, N, room, modulus-checks, p
 use Rattle.definition.specs.Table.{row, row-exactly, not-refused}
 use Rattle.definition.specs.Accepted.{accepted-only}
 use Rattle.definition.specs.Cases.{Row, mark, rows, call, Holds, table}
-use Rattle.lists_end.specs.Words.{words-product, RootRing, root-ring}
+use Rattle.lists_end.specs.Words.{words-product, RootRing, root-ring, words-told}
 use Rattle.resolvents.specs.Promise.{Exit, Refused, Done, Promise}
 use Rattle.resolvents.specs.Decided.{same-mark}
 
@@ -103,9 +103,13 @@ module _ (c : Call) (e : Exit) (q : Promise c e) where
         let a : Accepted c = success-exactly .0 success in
         words-product (a .modulus .prime) l hom (c .f) roots f (weights c) (a .divisors .product-apart) (a .divisors .each-apart) _ output-resolvent
 
-    -- and there is such a ring for every f, where words below p that differ still differ, so that the product there tells the output
+    -- and there is such a ring for every f, where words below p that differ still differ
     pub splits-somewhere : RootRing (c .p) (c .f)
     splits-somewhere = root-ring (success-exactly .0 success .modulus .prime) (c .f)
+
+    -- words below p that are the product there are the output
+    pub output-told : (s : RootRing (c .p) (c .f)) (b : List ℕ) → Words (c .p) b → map (s .embed) b ≡ product (s .ops) (values (s .ops) (s .roots) (weights c)) → take (N c) (e .output) ≡ b
+    output-told s b low h = words-told s _ b (done .words) low (output-product-anywhere (s .laws) (s .hom) (s .roots) (s .factors) ∙ sym h)
 
 -- two calls with the same job and as much room: places after the r-th and what stands in the lent words may differ
 pub record Alike (c c' : Call) : Type 0 where

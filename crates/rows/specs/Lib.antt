@@ -1,5 +1,5 @@
 pub mod Rows
 pub mod Newton
 pub mod Factorials
-pub mod Extension
+pub mod Recurrence
 pub mod Lent

@@ -15,16 +15,16 @@ use Rattle.splitting.specs.Steps.{Modulus, scale, step, act, act-zero, a
 use Rattle.splitting.specs.Steps.{act-linear, act-comm, act-one, act-modulus, scale-below, sum-below, step-below, act-below}
 
 -- the sequences that end before n
-abbrev pub Rest : {A : Type 0} (o : Ops A) (n : ℕ) → Type 0
-Rest {A} o n = (u : ℕ → A) × Below o u n
+abbrev pub Remainder : {A : Type 0} (o : Ops A) (n : ℕ) → Type 0
+Remainder {A} o n = (u : ℕ → A) × Below o u n
 
 module _ {A : Type 0} {o : Ops A} (l : Laws o) where
   -- they are equal as sequences are
-  pub rest-path : {n : ℕ} (u v : Rest o n) → u .0 ≡ v .0 → u ≡ v
-  rest-path u v p = Σ-prop-path (λ x. Π-prop λ i. Π-prop λ h. l .isSet _ _) {u = u} {v = v} p
+  pub remainder-path : {n : ℕ} (u v : Remainder o n) → u .0 ≡ v .0 → u ≡ v
+  remainder-path u v p = Σ-prop-path (λ x. Π-prop λ i. Π-prop λ h. l .isSet _ _) {u = u} {v = v} p
 
-  rest-set : {n : ℕ} → IsSet (Rest o n)
-  rest-set = Σ-set (Π-set λ i. l .isSet) (λ x. prop→set (Π-prop λ i. Π-prop λ h. l .isSet _ _))
+  remainder-set : {n : ℕ} → IsSet (Remainder o n)
+  remainder-set = Σ-set (Π-set λ i. l .isSet) (λ x. prop→set (Π-prop λ i. Π-prop λ h. l .isSet _ _))
 
   module _ (g : Modulus o) where
     open Ops (series o) using (zero as 0ˢ, one as 1ˢ, add as _+ˢ_, neg as -ˢ_)
@@ -33,7 +33,7 @@ module _ {A : Type 0} {o : Ops A} (l : Laws o) where
     infix 80 -ˢ_
     -- the classes modulo f
     abbrev pub K : Type 0
-    K = Rest o (suc (g .m))
+    K = Remainder o (suc (g .m))
 
     -- u(y) v
     abbrev times : (ℕ → A) → (ℕ → A) → ℕ → A
@@ -76,18 +76,18 @@ module _ {A : Type 0} {o : Ops A} (l : Laws o) where
     pub laws : Laws ops
     unfolding ops
     laws = record {
-      isSet = rest-set;
+      isSet = remainder-set;
       semi = record {
-        add-assoc = λ u v w. rest-path _ _ (series-laws l .semi .add-assoc (u .0) (v .0) (w .0));
-        add-comm = λ u v. rest-path _ _ (series-laws l .semi .add-comm (u .0) (v .0));
-        add-zero = λ u. rest-path _ _ (series-laws l .semi .add-zero (u .0));
-        mul-assoc = λ u v w. rest-path _ _ (times-comm (ops .mul u v) w ∙ times-swap (w .0) (u .0) (v .0) ∙ ap (times (u .0)) (times-comm w v));
-        mul-comm = λ u v. rest-path _ _ (times-comm u v);
-        mul-one = λ u. rest-path _ _ (times-one u);
-        mul-zero = λ u. rest-path _ _ (act-linear l g (suc (g .m)) (u .0) .at-zero);
-        mul-add = λ u v w. rest-path _ _ (act-linear l g (suc (g .m)) (u .0) .at-add (v .0) (w .0));
+        add-assoc = λ u v w. remainder-path _ _ (series-laws l .semi .add-assoc (u .0) (v .0) (w .0));
+        add-comm = λ u v. remainder-path _ _ (series-laws l .semi .add-comm (u .0) (v .0));
+        add-zero = λ u. remainder-path _ _ (series-laws l .semi .add-zero (u .0));
+        mul-assoc = λ u v w. remainder-path _ _ (times-comm (ops .mul u v) w ∙ times-swap (w .0) (u .0) (v .0) ∙ ap (times (u .0)) (times-comm w v));
+        mul-comm = λ u v. remainder-path _ _ (times-comm u v);
+        mul-one = λ u. remainder-path _ _ (times-one u);
+        mul-zero = λ u. remainder-path _ _ (act-linear l g (suc (g .m)) (u .0) .at-zero);
+        mul-add = λ u v w. remainder-path _ _ (act-linear l g (suc (g .m)) (u .0) .at-add (v .0) (w .0));
       };
-      add-neg = λ u. rest-path _ _ (series-laws l .add-neg (u .0));
+      add-neg = λ u. remainder-path _ _ (series-laws l .add-neg (u .0));
     }
 
     -- the root times v is the step of v, and a constant times v a multiple of v
@@ -102,11 +102,11 @@ module _ {A : Type 0} {o : Ops A} (l : Laws o) where
     pub const-hom : Hom o ops const
     unfolding ops const
     const-hom = record {
-      at-zero = rest-path _ _ (zero-scale l 1ˢ);
-      at-one = rest-path _ _ (one-scale l 1ˢ);
-      at-add = λ a b. rest-path _ _ (add-scale l a b 1ˢ);
-      at-mul = λ a b. rest-path _ _ (mul-scale l a b 1ˢ ∙ sym (const-mul a (const b)));
-      at-neg = λ a. rest-path _ _ (neg-scale l a 1ˢ);
+      at-zero = remainder-path _ _ (zero-scale l 1ˢ);
+      at-one = remainder-path _ _ (one-scale l 1ˢ);
+      at-add = λ a b. remainder-path _ _ (add-scale l a b 1ˢ);
+      at-mul = λ a b. remainder-path _ _ (mul-scale l a b 1ˢ ∙ sym (const-mul a (const b)));
+      at-neg = λ a. remainder-path _ _ (neg-scale l a 1ˢ);
     }
 
     -- different numbers are different constants
@@ -117,7 +117,7 @@ module _ {A : Type 0} {o : Ops A} (l : Laws o) where
     -- what can be cancelled in A can be cancelled here
     pub const-cancels : (a : A) → Cancels o a → Cancels ops (const a)
     unfolding scale
-    const-cancels a c u v e = rest-path u v (fun-ext (λ i. c (u .0 i) (v .0 i) (ap (λ (w : ℕ → A). w i) multiples)))
+    const-cancels a c u v e = remainder-path u v (fun-ext (λ i. c (u .0 i) (v .0 i) (ap (λ (w : ℕ → A). w i) multiples)))
       where
         multiples : scale o a (u .0) ≡ scale o a (v .0)
         multiples = sym (const-mul a u) ∙ ap (λ (w : K). w .0) e ∙ const-mul a v
@@ -125,13 +125,13 @@ module _ {A : Type 0} {o : Ops A} (l : Laws o) where
     -- the class of u by that of the rest of u
     pub class-zero : (u : ℕ → A) → class 0 u ≡ ops .zero
     unfolding ops class
-    class-zero u = rest-path _ _ (act-zero o g u 1ˢ)
+    class-zero u = remainder-path _ _ (act-zero o g u 1ˢ)
 
     pub class-suc : (k : ℕ) (u : ℕ → A) → class (suc k) u ≡ ops .add (const (u 0)) (ops .mul root (class k (λ i. u (suc i))))
     unfolding ops class const
-    class-suc k u = rest-path _ _ (act-suc o g k u 1ˢ ∙ ap (λ w. scale o (u 0) 1ˢ +ˢ w) (sym (root-mul (class k (λ i. u (suc i))))))
+    class-suc k u = remainder-path _ _ (act-suc o g k u 1ˢ ∙ ap (λ w. scale o (u 0) 1ˢ +ˢ w) (sym (root-mul (class k (λ i. u (suc i))))))
 
     -- f is 0
     pub class-modulus : class (suc (suc (g .m))) (g .f) ≡ ops .zero
     unfolding ops class
-    class-modulus = rest-path _ _ (act-modulus l g)
+    class-modulus = remainder-path _ _ (act-modulus l g)

@@ -1,20 +1,10 @@
 -- Rings over a ring: another ring, and a map into it that keeps the operations, takes no two numbers to one, and keeps what can
 -- be cancelled. The ring itself is one, A[y]/(f) is one, and a ring over a ring over A is one.
-use mathlib.Core.Path.{_≡_, refl, ap, _∙_}
+use mathlib.Core.Path.{_≡_, refl}
 use Rattle.algebra.specs.Ring.{Ops, Laws, Cancels}
-use Rattle.algebra.specs.Hom.{Hom}
+use Rattle.algebra.specs.Hom.{Hom, hom-then}
 use Rattle.splitting.specs.Steps.{Modulus}
 use Rattle.splitting.specs.Adjoin.{K, ops, laws, const, const-hom, const-injective, const-cancels}
-
--- one map that keeps the operations after another
-pub hom-then : {A B C : Type 0} {o : Ops A} {q : Ops B} {r : Ops C} {φ : A → B} {ψ : B → C} → Hom o q φ → Hom q r ψ → Hom o r (λ a. ψ (φ a))
-hom-then {ψ = ψ} h k = record {
-  at-zero = ap ψ (h .at-zero) ∙ k .at-zero;
-  at-one = ap ψ (h .at-one) ∙ k .at-one;
-  at-add = λ x y. ap ψ (h .at-add x y) ∙ k .at-add _ _;
-  at-mul = λ x y. ap ψ (h .at-mul x y) ∙ k .at-mul _ _;
-  at-neg = λ x. ap ψ (h .at-neg x) ∙ k .at-neg _;
-}
 
 pub record Extension {A : Type 0} (o : Ops A) : Type 1 where
   pub carrier : Type 0

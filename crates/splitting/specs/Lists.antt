@@ -2,28 +2,20 @@
 -- as one from the constant up, cn, .., c1, 1, which is `monic`. The first is at home with roots and Horner's rule, the second with
 -- remainders; each is the other read from the end.
 use mathlib.Core.Path.{_≡_, sym, ap, _∙_}
-use mathlib.Core.List.{List, [], _∷_, map, reverse, reverse-cons}
+use mathlib.Core.List.{List, _∷_, map}
 use Prim.Native.Nat.{ℕ, zero, suc, _+_, _≤_}
 use native.Mathlib.Decide.{decLe}
 use native.Mathlib.Omega.{arith}
-use lib.ListN.{length, length-reverse, getD, List·getD-append}
-use lib.Seq.{getD-at, ext-getD}
+use lib.ListN.{length}
+use lib.Seq.{ext-getD}
 use Rattle.algebra.specs.Ring.{Ops, Laws}
 use Rattle.algebra.specs.Newton.{coeff, coeff-zero, coeff-past}
 use Rattle.algebra.specs.Hom.{Hom}
 use Rattle.polynomials.specs.Divisors.{Below, poly, monic}
+use Rattle.polynomials.specs.Reversed.{getD-reverse}
 use Rattle.polynomials.specs.Bounds.{below-poly}
 use Rattle.polynomials.specs.Carried.{hom-poly}
 use Rattle.definition.specs.Roots.{listed, length-listed, getD-listed, product}
-
--- a list read from its end
-getD-reverse : {A : Type 0} (xs : List A) (d : A) (k i : ℕ) → suc (k + i) ≡ length xs → getD (reverse xs) i d ≡ getD xs k d
-getD-reverse [] d k i e = absurd (omega arith)
-getD-reverse (x ∷ xs) d zero i e = ap (λ l. getD l i d) (reverse-cons x xs) ∙ getD-at (reverse xs) x [] d i (omega (arith, length-reverse xs))
-getD-reverse (x ∷ xs) d (suc k) i e =
-    ap (λ l. getD l i d) (reverse-cons x xs)
-    ∙ List·getD-append (reverse xs) (x ∷ []) d i (omega (arith, length-reverse xs))
-    ∙ getD-reverse xs d k i (omega arith)
 
 module _ {A : Type 0} (o : Ops A) where
   -- 1, c1, .., cn, and zeros

@@ -3,7 +3,7 @@ ghost use mathlib.Core.Path.{_≡_};
 ghost use Prim.Native.Nat.{_+_, _-_, _≤_};
 ghost use lib.ListN.{length, getD};
 ghost use Rattle.algebra.specs.Sum.{sum};
-ghost use Rattle.halves.specs.Halves.{Halved, Widened, Halves, whole};
+ghost use Rattle.halves.specs.Halves.{Halved, Widened, Halves, of-halves};
 ghost use Rattle.residues.specs.Promises.{InRange};
 ghost use Rattle.residues.specs.Residues.{residues};
 
@@ -65,7 +65,7 @@ pub extern "C" fn linres_inner_halves(
     terms: usize,
 ) -> u32
     requires { ⌜ Halves p (now low) (now high) from (now wide) at terms ⌝ }
-    ensures { λ r. ⌜ r ≡ sum (residues p) terms (λ i. residues p .mul (getD (now (wide .entry)) (at + i) 0) (whole (now (low .entry)) (now (high .entry)) (from + i))) ⌝ }
+    ensures { λ r. ⌜ r ≡ sum (residues p) terms (λ i. residues p .mul (getD (now (wide .entry)) (at + i) 0) (of-halves (now (low .entry)) (now (high .entry)) (from + i))) ⌝ }
 {
     halves::inner_halves(p, low, high, from, wide, at, terms)
 }

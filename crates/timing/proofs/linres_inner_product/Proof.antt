@@ -1,4 +1,4 @@
--- `timing::linres_inner_product` meets its contract: each test refuses one part of the range, and past all of them the range is whole.
+-- `timing::linres_inner_product` meets its contract: each test refuses one part of the range, and past all of them the range is of-halves.
 use borrow.Author.Needs.{needs}
 use Rattle.timing.proofs.linres_inner_product.Statement.{statement}
 use Rattle.timing.proofs.linres_inner_product.Tie as tie
