@@ -1,6 +1,7 @@
 /* drive P C1,C2,.. W1,W2,.. : works one job in this process and prints, for each contender, its
    name, the least time of one call in seconds, and b1 to bN. With BEFORE defined, before_resolvent of
-   another build of the library is one of them; with FLINT defined, the two roads over FLINT are. */
+   another build of the library is one of them, where BEFORE is 12 without its last argument, which
+   request 13 gave it; with FLINT defined, the two roads over FLINT are. */
 #include <stdio.h>
 #include <stdlib.h>
 #include <string.h>
@@ -11,27 +12,34 @@
 
 typedef int contender(uint32_t p, const uint32_t *c, size_t n, const int32_t *w, size_t r, uint32_t *out);
 
-/* An exported entry, in plain_resolvent's form. */
-static int entry_of(__typeof__(linres_resolvent) *entry, uint32_t p, const uint32_t *c, size_t n, const int32_t *w, size_t r, uint32_t *out)
+static uint32_t work[LINRES_WORK];
+
+/* The exported entry, in plain_resolvent's form. */
+static int linres(uint32_t p, const uint32_t *c, size_t n, const int32_t *w, size_t r, uint32_t *out)
 {
-    static uint32_t work[LINRES_WORK];
     size_t count;
-    uint32_t simple;
-    entry(p, c, n, w, r, out, LINRES_OUTPUT, work, LINRES_WORK, &count, &simple);
+    uint32_t simple, lists;
+    linres_resolvent(p, c, n, w, r, out, LINRES_OUTPUT, work, LINRES_WORK, &count, &simple, &lists);
     return (int)count;
 }
 
-static int linres(uint32_t p, const uint32_t *c, size_t n, const int32_t *w, size_t r, uint32_t *out)
-{
-    return entry_of(linres_resolvent, p, c, n, w, r, out);
-}
-
 #ifdef BEFORE
+#if BEFORE == 12
+uint32_t before_resolvent(uint32_t p, const uint32_t *f, size_t n, const int32_t *weights, size_t r, uint32_t *out,
+                          size_t out_len, uint32_t *work, size_t work_len, size_t *count, uint32_t *simple);
+#define LISTS
+#else
 __typeof__(linres_resolvent) before_resolvent;
+#define LISTS , &lists
+#endif
 
 static int before(uint32_t p, const uint32_t *c, size_t n, const int32_t *w, size_t r, uint32_t *out)
 {
-    return entry_of(before_resolvent, p, c, n, w, r, out);
+    size_t count;
+    uint32_t simple, lists = 0;
+    (void)lists;
+    before_resolvent(p, c, n, w, r, out, LINRES_OUTPUT, work, LINRES_WORK, &count, &simple LISTS);
+    return (int)count;
 }
 #endif
 

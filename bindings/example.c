@@ -1,4 +1,4 @@
-/* Document 01's example, as a text and in numbers, behind wrappers that test what C can test of what linres.h asks.
+/* Document 01's example, as a text and in numbers, with what it costs, behind wrappers that test what C can test of what linres.h asks.
 
    rt staticlib exports && cc -o target/example bindings/example.c target/staticlib/libexports.a && target/example */
 #include <stdbool.h>
@@ -22,7 +22,7 @@ static bool answer(const char *text, char *out, size_t out_size) {
 }
 
 struct resolvent {
-    uint32_t code, simple;
+    uint32_t code, simple, lists;
     size_t count;
     uint32_t coefficients[LINRES_OUTPUT];
 };
@@ -33,8 +33,13 @@ static bool resolve(uint32_t p, const uint32_t *f, size_t n, const int32_t *weig
     if (!f || !weights || !result)
         return false;
     result->code = linres_resolvent(p, f, n, weights, r, result->coefficients, LINRES_OUTPUT, work, LINRES_WORK,
-                                    &result->count, &result->simple);
+                                    &result->count, &result->simple, &result->lists);
     return true;
+}
+
+/* The number of weight lists that a job with these weights is worked by, or false where none is worked. */
+static bool cost(const int32_t *weights, size_t r, uint32_t *lists) {
+    return weights && lists && linres_lists(weights, r, lists) == 0;
 }
 
 int main(void) {
@@ -45,10 +50,15 @@ int main(void) {
 
     static const uint32_t f[] = {0, 0, 0, 256};
     static const int32_t weights[] = {1, 1};
+    uint32_t lists;
+    if (!cost(weights, 2, &lists))
+        return 1;
+    printf("%u lists to work\n", lists);
+
     static struct resolvent result;
     if (!resolve(257, f, 4, weights, 2, &result))
         return 1;
-    printf("code %u, N = %zu, simple %u:", result.code, result.count, result.simple);
+    printf("code %u, N = %zu, simple %u, lists %u:", result.code, result.count, result.simple, result.lists);
     for (size_t i = 0; i < result.count; i++)
         printf(" %u", result.coefficients[i]);
     puts("");

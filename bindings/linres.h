@@ -25,9 +25,15 @@ enum { LINRES_OUTPUT = 1024, LINRES_WORK = 12 * (LINRES_OUTPUT + 1), LINRES_TEXT
 size_t linres_answer_text(const uint8_t *text, size_t text_len, uint8_t *out, size_t out_len);
 
 /* The resolvent of f = x^n + f[0] x^(n-1) + .. for the r weights, modulo p. The number of document 01's table comes back (2 to 12,
-   or 16), or 0. At 0, *count is N, *simple is 1 (yes) or 0 (no), the first N words of out are b1 to bN, the first 12(N + 1) words of work
-   are 0, and later words of both are as they were. Else *count and *simple are 0, and out and work are as they were. */
+   or 16), or 0. At 0, *count is N, *simple is 1 (yes) or 0 (no), *lists is the number of weight lists worked, the first N words of out
+   are b1 to bN, the first 12(N + 1) words of work are 0, and later words of both are as they were. Else *count, *simple and *lists are
+   0, and out and work are as they were. */
 uint32_t linres_resolvent(uint32_t p, const uint32_t *f, size_t n, const int32_t *weights, size_t r, uint32_t *out,
-                          size_t out_len, uint32_t *work, size_t work_len, size_t *count, uint32_t *simple);
+                          size_t out_len, uint32_t *work, size_t work_len, size_t *count, uint32_t *simple, uint32_t *lists);
+
+/* What a job with these weights costs, told without working it: 0 comes back and *lists is what linres_resolvent says of every job with
+   them that it answers, from 2 to 1957. Or the number of row 6 or 8 of document 01's table comes back, by which it refuses every such
+   job that breaks no row before, and *lists is 0. */
+uint32_t linres_lists(const int32_t *weights, size_t r, uint32_t *lists);
 
 #endif

@@ -1,7 +1,8 @@
 /* Calls the exported functions as its input says, for tests/exports. Each lent slice has exactly the length asked for, with a
    guard of known words before and behind it.
 
-   `N p n f.. r weights.. out_len work_len`, numbers with blanks between them: answers `code count simple wrong b1 .. bN`.
+   `N p n f.. r weights.. out_len work_len`, numbers with blanks between them: answers `code count simple lists wrong b1 .. bN`.
+   `L r weights..`: answers `code lists`.
    `T text_len out_len`, a line feed and the text's bytes: answers `length wrong` and the bytes, in hexadecimal.
    `wrong` counts the words, or bytes, that are not what the promise says of them: written where they should be as they were, or
    work room that is not zero. */
@@ -53,28 +54,43 @@ static int64_t number(void) {
     return value;
 }
 
+static int32_t *read_weights(size_t *r) {
+    *r = (size_t)number();
+    int32_t *weights = lent(sizeof *weights, *r);
+    for (size_t i = 0; i < *r; i++)
+        weights[i] = (int32_t)number();
+    return weights;
+}
+
+static void cost(void) {
+    size_t r;
+    int32_t *weights = read_weights(&r);
+    uint32_t lists = 77;
+    uint32_t code = linres_lists(weights, r, &lists);
+    printf("%" PRIu32 " %" PRIu32 "\n", code, lists);
+    give_back(weights, sizeof *weights);
+}
+
 static void numbers(void) {
     uint32_t p = (uint32_t)number();
     size_t n = (size_t)number();
     uint32_t *f = lent(sizeof *f, n);
     for (size_t i = 0; i < n; i++)
         f[i] = (uint32_t)number();
-    size_t r = (size_t)number();
-    int32_t *weights = lent(sizeof *weights, r);
-    for (size_t i = 0; i < r; i++)
-        weights[i] = (int32_t)number();
+    size_t r;
+    int32_t *weights = read_weights(&r);
     size_t out_len = (size_t)number(), work_len = (size_t)number();
     uint32_t *out = lent(sizeof *out, out_len), *work = lent(sizeof *work, work_len);
 
     size_t count = 77;
-    uint32_t simple = 77;
-    uint32_t code = linres_resolvent(p, f, n, weights, r, out, out_len, work, work_len, &count, &simple);
+    uint32_t simple = 77, lists = 77;
+    uint32_t code = linres_resolvent(p, f, n, weights, r, out, out_len, work, work_len, &count, &simple, &lists);
 
     size_t cleared = code == 0 ? 12 * (count + 1) : 0;
     size_t wrong = touched_words(out, count, out_len) + touched_words(work, cleared, work_len);
     for (size_t i = 0; i < cleared; i++)
         wrong += work[i] != 0;
-    printf("%" PRIu32 " %zu %" PRIu32 " %zu", code, count, simple, wrong);
+    printf("%" PRIu32 " %zu %" PRIu32 " %" PRIu32 " %zu", code, count, simple, lists, wrong);
     for (size_t i = 0; i < count; i++)
         printf(" %" PRIu32, out[i]);
     puts("");
@@ -104,6 +120,8 @@ int main(void) {
     while (scanf(" %c", &kind) == 1)
         if (kind == 'N')
             numbers();
+        else if (kind == 'L')
+            cost();
         else
             text();
     return 0;

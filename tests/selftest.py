@@ -31,6 +31,13 @@ EDGES = [
     (251, 1, [0], 2), (257, 1, [0], 8),
 ]
 
+# Weights, and the number of lists worked: request 13's bounds for six and eight weights, its two orders, equal weights
+LISTS_WORKED = [
+    ([], 1), ([5], 2), ([1, 1], 5), ([1, 1, 2], 16), ([2, 1, 1], 11), ([1] * 4, 23), ([1] * 6, 95), ([1] * 8, 383),
+    ([1, 1, 1, 1, 2, -1], 1003), ([-1, 2, 1, 1, 1, 1], 176), ([1, 2, 4, 8, 16, -5], 1957),
+    ([1, 2, 4, 8, 16, 32, 64, 128], 109601),
+]
+
 # Degrees of the irreducible factors, d^m for one that occurs m times
 FACTORINGS = '''
 1; 1 1; 1^2; 2; 1 1 1; 1^3; 1^2 1; 2 1; 3; 1 1 1 1; 2 2; 2^2; 2 1 1; 2 1^2; 4; 3 1; 5; 2 2 1; 4 1; 3 3;
@@ -55,6 +62,8 @@ def factors(text):
 
 
 def tables(tally):
+    for weights, want in LISTS_WORKED:
+        tally.equal('lists worked for %s' % weights, second.lists_worked(weights), want)
     for case, line in zip('ABCDEFGHIJKL', BY_HAND):
         coeffs, weights, want = map(numbers, line.split('|'))
         tally.equal('case ' + case, second.resolvent(257, coeffs, weights), want)

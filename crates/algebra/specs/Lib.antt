@@ -2,6 +2,7 @@ pub mod Ring
 pub mod Sum
 pub mod Power
 pub mod Binomial
+pub mod Mix
 pub mod Series
 pub mod Newton
 pub mod Product

@@ -134,3 +134,7 @@ module _ {A : Type 0} {o : Ops A} (l : Laws o) where
   pub sum-neg : (n : ℕ) (f : ℕ → A) → sum o n (λ i. o .neg (f i)) ≡ o .neg (sum o n f)
   sum-neg zero f = simp (sum-zero, R.neg-zero, l)
   sum-neg (suc n) f = simp (sum-suc, sum-neg n f, R.neg-sum, l)
+
+  pub total-neg : {X : Type 0} (xs : List X) (f : X → A) → total o xs (λ x. o .neg (f x)) ≡ o .neg (total o xs f)
+  total-neg [] f = simp (total-nil, R.neg-zero, l)
+  total-neg (x ∷ xs) f = simp (total-cons, total-neg xs f, R.neg-sum, l)

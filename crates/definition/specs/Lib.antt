@@ -10,5 +10,8 @@ pub mod Refusals
 pub mod Table
 pub mod Accepted
 pub mod Turns
+pub mod Order
+pub mod Cost
+pub mod Merge
 pub mod Edges
 pub mod Cases

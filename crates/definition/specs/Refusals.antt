@@ -52,8 +52,15 @@ modulus-checks p = (ltb p 257 || ltb 2147483647 p, 2) ∷ (not (isPrime p), 3) �
 unfoldable pub polynomial-checks : ℕ → List ℕ → List (Bool × ℕ)
 polynomial-checks p f = (eqb (length f) 0 || ltb 12 (length f), 4) ∷ (some-below (λ i. leb p (getD f i 0)) (length f), 5) ∷ []
 
+-- the tests of rows 6 and 8
+abbrev pub bad-number : ℕ → Bool
+bad-number r = eqb r 0 || ltb 6 r
+
+abbrev pub some-bad : List ℤ → Bool
+some-bad L = some-below (λ i. bad-weight (getD L i (pos 0))) (length L)
+
 unfoldable pub weight-checks : ℕ → ℕ → List ℤ → List (Bool × ℕ)
-weight-checks n r L = (eqb r 0 || ltb 6 r, 6) ∷ (ltb n r, 7) ∷ (some-below (λ i. bad-weight (getD L i (pos 0))) (length L), 8) ∷ []
+weight-checks n r L = (bad-number r, 6) ∷ (ltb n r, 7) ∷ (some-bad L, 8) ∷ []
 
 unfoldable pub room-checks : ℕ → ℕ → ℕ → ℕ → List (Bool × ℕ)
 room-checks p N output work = (ltb 1024 N, 9) ∷ (leb p N, 10) ∷ (ltb output N, 11) ∷ (ltb work (room N), 12) ∷ []
@@ -77,6 +84,13 @@ first ((t, k) ∷ rest) = cond t k (first rest)
 
 unfoldable pub refusal : Call → ℕ
 refusal c = first (checks c)
+
+-- of these rows, those that a weight list breaks by itself, whatever the polynomial (request 13)
+unfoldable pub list-checks : ℕ → List ℤ → List (Bool × ℕ)
+list-checks r L = (bad-number r, 6) ∷ (some-bad L, 8) ∷ []
+
+unfoldable pub list-refusal : ℕ → List ℤ → ℕ
+list-refusal r L = first (list-checks r L)
 
 -- a weight other than 0, from -16 to 16
 abbrev pub Weight : ℤ → Type 0

@@ -1,5 +1,5 @@
 // Document 01's cases A to L and the calls at its edges, through the resolvent entry, and then as texts. Each line tells what came
-// back: the code, N, the mark and the first words of output.
+// back: the code, N, the mark, the number of lists worked and the first words of output.
 mod texts;
 
 use resolvents::Outcome;
@@ -56,6 +56,8 @@ fn told(name: &[u8], r: Outcome, out: &[u32]) {
     } else {
         say(b", simple no");
     }
+    say(b", lists ");
+    number(r.lists);
     coefficients(out, r.count);
     say(b"\n");
 }
@@ -180,6 +182,36 @@ fn places() {
     job(b"others behind", 257, &two, 2, others);
 }
 
+// Lists worked: the number goes by the job's order, and equal collisions are merged.
+fn lists() {
+    let six = [1u32, 2, 3, 4, 5, 6];
+    job(b"1,1,1,1,2,-1", 1009, &six, 6, [1, 1, 1, 1, 2, -1]);
+    job(b"-1,2,1,1,1,1", 1009, &six, 6, [-1, 2, 1, 1, 1, 1]);
+    job(b"no sums equal", 1009, &six, 6, [1, 2, 4, 8, 16, -5]);
+}
+
+fn cost(name: &[u8], r: usize, places: [i32; 6]) {
+    let told = resolvents::lists(Weights { places, len: r });
+    say(name);
+    say(b": code ");
+    number(told.code);
+    say(b", lists ");
+    number(told.lists);
+    say(b"\n");
+}
+
+// What a job costs, told without working it: the same numbers, or row 6 or 8.
+fn costs() {
+    cost(b"1,1,1,1,2,-1", 6, [1, 1, 1, 1, 2, -1]);
+    cost(b"-1,2,1,1,1,1", 6, [-1, 2, 1, 1, 1, 1]);
+    cost(b"no sums equal", 6, [1, 2, 4, 8, 16, -5]);
+    cost(b"one weight", 1, [5, 0, 0, 0, 0, 0]);
+    cost(b"none", 0, [1, 1, 1, 1, 1, 1]);
+    cost(b"seven, of which one is 0", 7, [0, 1, 1, 1, 1, 1]);
+    cost(b"weight 0", 2, [1, 0, 1, 1, 1, 1]);
+    cost(b"weight 17", 2, [17, 1, 1, 1, 1, 1]);
+}
+
 // Output and work room: more than enough, one word fewer of each and of both, and exactly enough.
 fn room() {
     let pair = [1i32, 1, 0, 0, 0, 0];
@@ -212,6 +244,10 @@ fn main() {
     orders();
     say(b"-- places after the r-th\n");
     places();
+    say(b"-- lists worked\n");
+    lists();
+    say(b"-- lists told without working them\n");
+    costs();
     say(b"-- room\n");
     room();
     texts::all();

@@ -1,4 +1,3 @@
-pub mod Lists
 pub mod Zeros
 pub mod Collisions
 pub mod Longer

@@ -11,12 +11,14 @@ use lib.Dec.{eqb}
 use lib.ListN.{length, take, length-replicate}
 use lib.Seq.{take-length, take-all}
 use lib.IntN.{ℤ}
-use Rattle.definition.specs.Refusals.{Call, weights, room, modulus-checks, polynomial-checks, weight-checks, checks, first, refusal}
+use Rattle.definition.specs.Refusals.{Call, weights, room, modulus-checks, polynomial-checks, weight-checks, checks, first, refusal, list-checks, list-refusal}
 use Rattle.definition.specs.Table.{first-holds, or-right, not-refused}
 use Rattle.records.specs.Records.{Job}
 use Rattle.weights.specs.declared.Weights.{Weights}
 use Rattle.weights.specs.Lists.{listed}
+use Rattle.resolvents.specs.declared.Cost.{Cost}
 use Rattle.resolvents.specs.Promise.{Exit, Promise, given}
+use Rattle.resolvents.specs.Cost.{Told}
 use Rattle.linres_text.specs.Texts.{asked, call}
 
 first-cong : (rows a b : List (Bool × ℕ)) → first a ≡ first b → first (rows ++ a) ≡ first (rows ++ b)
@@ -55,13 +57,14 @@ module _ (p : ℕ) (f : List ℕ) (w : List ℤ) (out work : List ℕ) (list : W
   pub kept : (e : Exit) → Promise c e → Promise d e
   kept e k = record {
     code = k .code ∙ same-refusal;
-    refused = λ n. let r = k .refused (λ z. n (sym same-refusal ∙ z)) in record { count = r .count; simple = r .simple; output = r .output; work = r .work };
+    refused = λ n. let r = k .refused (λ z. n (sym same-refusal ∙ z)) in record { count = r .count; simple = r .simple; lists = r .lists; output = r .output; work = r .work };
     done = λ z.
         let x = k .done (same-refusal ∙ z) in
         let same = same-weights (not-refused d .0 z .list .high) in
         record {
           count = rw same at (x .count);
           simple = x .simple;
+          lists = rw same at (x .lists);
           resolved = rw same at (x .resolved);
           words = rw same at (x .words);
           later = rw same at (x .later);
@@ -69,6 +72,30 @@ module _ (p : ℕ) (f : List ℕ) (w : List ℤ) (out work : List ℕ) (list : W
           rest = rw same at (x .rest);
         };
   }
+
+six-alone : (r : ℕ) (L : List ℤ) → 6 < r → list-refusal r L ≡ 6
+unfolding list-refusal list-checks
+six-alone r L h = first-holds 6 _ (or-right (eqb r 0) (lt-ltb 6 r h))
+
+-- what is told of the first six weights is told of all, since more than six are refused
+pub told-kept : (w : List ℤ) (list : Weights) → list .len ≡ length w → listed list ≡ take 6 w → (t : Cost) → Told (list .len) (listed list) t → Told (length w) w t
+told-kept w list all front t h = elim (decLe (length w) 6) [
+  | yes few ↦ alike all (front ∙ take-all 6 w few) h
+  | no many ↦ record {
+    code = h .code ∙ six (listed list) _ all many ∙ sym (six w _ refl many);
+    refused = λ n. h .refused (not-none (six (listed list) _ all many));
+    told = λ z. absurd (not-none (six w _ refl many) z);
+  }
+]
+  where
+    alike : {r r' : ℕ} {L L' : List ℤ} → r ≡ r' → L ≡ L' → Told r L t → Told r' L' t
+    alike e f g = rw (e, f) at g
+
+    six : (L : List ℤ) (r : ℕ) → r ≡ length w → ¬ (length w ≤ 6) → list-refusal r L ≡ 6
+    six L r e n = six-alone r L (omega (arith, e))
+
+    not-none : {n : ℕ} → n ≡ 6 → n ≡ 0 → ⊥
+    not-none e f = absurd (omega (arith, e, f))
 
 -- what stands in the rooms makes no difference to the number
 pub job-refusal : (j : Job) (out work : List ℕ) → length out ≡ 1024 → length work ≡ room 1024 → refusal (asked (j .modulus) (j .coeffs) (j .weights) out work) ≡ refusal (call j)

@@ -1,5 +1,6 @@
 // From the text of a job to the text of its answer: all that the program `linres` does between reading and writing.
 use records::Written;
+use resolvents::Cost;
 use resolvents::Outcome;
 use weights::Weights;
 ghost use mathlib.Core.Path.{_≡_};
@@ -7,6 +8,7 @@ ghost use lib.ListN.{length, take};
 ghost use Rattle.lines.specs.Lines.{refused-line};
 ghost use Rattle.records.specs.Records.{job};
 ghost use Rattle.resolvents.specs.Promise.{Promise, left};
+ghost use Rattle.resolvents.specs.Cost.{Told};
 ghost use Rattle.weights.specs.Lists.{listed};
 ghost use Rattle.linres_text.specs.Texts.{TextOf, AnswerTo, asked};
 ghost use Rattle.linres_text.specs.Promise.{Put, Puts};
@@ -39,6 +41,13 @@ pub fn resolvent_for(
     ensures { λ r. ⌜ Promise (asked p (now (f .entry)) (now (weights .entry)) (now (out .entry)) (now (work .entry))) (left r (now (out .exit)) (now (work .exit))) ⌝ }
 {
     resolvents::resolvent(p, f, first_six(weights), out, work)
+}
+
+// What a job with the weights in a slice costs: the number of row 6 or 8, or 0 and the number of weight lists.
+pub fn lists_for(weights: &[i32]) -> Cost
+    ensures { λ r. ⌜ Told (length (now (weights .entry))) (now (weights .entry)) r ⌝ }
+{
+    resolvents::lists(first_six(weights))
 }
 
 // Writes the line of a refusal.

@@ -1,7 +1,7 @@
 -- Demand 3 for every f, split or not: wherever f has all its roots, its resolvent is the product of x - v over the weighted sums v
 -- of all placements. A map that keeps the operations carries rules 1 to 4 along, the product meets them by demand 3 for roots, and
 -- they have one answer where the numbers that they divide by can be cancelled.
-use mathlib.Core.Path.{_≡_, sym, ap, _∙_}
+use mathlib.Core.Path.{_≡_, sym, _∙_}
 use mathlib.Core.List.{List, map}
 use Prim.Native.Nat.{ℕ, _≤_}
 use native.Mathlib.Omega.{arith}
@@ -18,23 +18,19 @@ use Rattle.definition.specs.Definition.{Rule₁, Resolvent}
 use Rattle.definition.specs.Rules.{T, T-meets, same-T}
 use Rattle.definition.specs.OneAnswer.{same-sums, one-answer}
 use Rattle.definition.specs.Carry.{hom-Rule₁, hom-Rule₂, carry}
-use Rattle.definition.specs.Roots.{product, values, length-product, sums-of-roots}
+use Rattle.definition.specs.Roots.{product, values, sums-of-roots}
 use Rattle.definition.specs.Split.{T-placements, split}
 use Rattle.splitting.specs.Splitting.{Splitting}
 
 -- f = x^n + c1 x^(n-1) + .. + cn is the product of x - a over the listed a of a ring q, where φ takes the coefficients
 module _ {A B : Type 0} {o : Ops A} {q : Ops B} (l : Laws q) {φ : A → B} (hom : Hom o q φ) (c : List A) (rs : List B) (factors : map φ c ≡ product q rs) where
-  -- f has as many roots as its degree says
-  pub roots-number : length rs ≡ length c
-  roots-number = sym (length-product l rs) ∙ ap length (sym factors) ∙ length-map c φ
-
   module _ {m : ℕ} {s : ℕ → A} (rule₁ : Rule₁ o c m s) where
     -- what rule 1 gives are the sums of powers of the roots
     pub sums-are : (k : ℕ) → k ≤ m → φ (s k) ≡ power-sum q rs k
     sums-are = same-sums q (map φ c) m _ _ (hom-Rule₁ hom c m s rule₁) (rw factors (sums-of-roots l rs m))
 
     -- what rule 2 gives is what it gives for the roots
-    pub T-carried : (L : List ℤ) (k : ℕ) → k ≤ m → φ (T o s L k) ≡ T q (power-sum q rs) L k
+    T-carried : (L : List ℤ) (k : ℕ) → k ≤ m → φ (T o s L k) ≡ T q (power-sum q rs) L k
     T-carried L k h = same-T q (hom-Rule₂ hom s (T o s) (T-meets o s)) (T-meets q (power-sum q rs)) L k (λ i d. sums-are i (omega arith))
 
     -- the product of m! times the sum of powers of the weighted sums

@@ -3,3 +3,4 @@ pub mod Laying
 pub mod Places
 pub mod Placements
 pub mod Number
+pub mod Merge

@@ -4,10 +4,10 @@
 use mathlib.Core.Path.{_≡_, refl, sym, _∙_, ap, fun-ext}
 use mathlib.Core.Logic.{ite, if-pos, if-neg, by-cases, ⊎-elim, ∥∥₁-elim}
 use mathlib.Core.HLevel.{⊥-prop}
-use mathlib.Core.List.{List, [], _∷_, List·Permᴰ, Permᴰ·refl, List·Permᴰ·nil as pnil, List·Permᴰ·cons as pcons, List·Permᴰ·swap as pswap, List·Permᴰ·trans as ptrans}
+use mathlib.Core.List.{List, [], _∷_, _++_, List·Permᴰ, Permᴰ·refl, List·Permᴰ·nil as pnil, List·Permᴰ·cons as pcons, List·Permᴰ·swap as pswap, List·Permᴰ·trans as ptrans}
 use mathlib.Core.List.{List·Memᴰ, List·Memᴰ·not-nil, List·Memᴰ·cases-cons, List·Memᴰ·head as mhead, List·Memᴰ·tail as mtail, List·Nodup, nodup-nil, nodup-cons}
-use Prim.Native.Nat.{ℕ, suc, _*_, _≤_, _<_}
-use native.Mathlib.Nat.{mul-assoc, mul-left-comm, one-mul, mul-pos, suc-ne-zero}
+use Prim.Native.Nat.{ℕ, suc, _+_, _*_, _≤_, _<_}
+use native.Mathlib.Nat.{zero-add, mul-assoc, mul-left-comm, one-mul, mul-pos, suc-ne-zero}
 use native.Mathlib.Omega.{arith}
 use lib.ListN.{length}
 use Rattle.algebra.specs.Binomial.{fact, fact-zero, fact-suc}
@@ -202,6 +202,14 @@ module _ {W : Type 0} (eq : Discrete W) where
   count-le w (x ∷ L) =
       let ih : count eq w L ≤ length L = count-le w L in
       by-cases (eq w x) (λ e. rw (count-same w x L e) (omega arith)) (λ n. rw (count-other w x L n) (omega arith))
+
+  pub count-append : (w : W) (L M : List W) → count eq w (L ++ M) ≡ count eq w L + count eq w M
+  count-append w [] M = sym (ap (λ n. n + count eq w M) (count-nil w) ∙ zero-add _)
+  count-append w (x ∷ L) M =
+      let ih : count eq w (L ++ M) ≡ count eq w L + count eq w M = count-append w L M in
+      by-cases (eq w x)
+      (λ e. rw (count-same w x L e, count-same w x (L ++ M) e) (omega (arith, ih)))
+      (λ n. rw (count-other w x L n, count-other w x (L ++ M) n) ih)
 
   count-step : (w x : W) (L M : List W) → count eq w L ≡ count eq w M → count eq w (x ∷ L) ≡ count eq w (x ∷ M)
   count-step w x L M h = by-cases (eq w x) (λ e. simp (count-same) (ap suc h)) (λ n. simp (count-other) h)

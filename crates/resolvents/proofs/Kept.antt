@@ -1,12 +1,13 @@
 -- How the entry keeps its promise: a number that is not 0 is handed back with nothing touched; else the call is accepted, which
 -- is all that the engine and the mark ask, and what they leave is what the promise says.
-use mathlib.Core.Path.{_≡_, refl, sym, _∙_}
+use mathlib.Core.Path.{_≡_, refl, sym, ap, _∙_}
 use mathlib.Core.Bool.{Bool, true, false}
 use mathlib.Core.List.{List}
 use mathlib.Core.Logic.{_↔_}
 use Prim.Native.Nat.{ℕ, _+_, _*_, _≤_}
 use lib.ListN.{length}
 use Rattle.polynomials.specs.Divisors.{Simple}
+use Rattle.definition.specs.Cost.{lists}
 use Rattle.definition.specs.Refusals.{Call, weights, N, room, refusal, Accepted}
 use Rattle.definition.specs.Table.{not-refused}
 use Rattle.weights.specs.declared.Weights.{Weights}
@@ -19,8 +20,8 @@ use Rattle.resolvents.specs.Judged.{Judged}
 use Rattle.resolvents.specs.Cleared.{Cleared}
 use Rattle.resolvents.proofs.Judging.{listed-is}
 
-pub refused-kept : (c : Call) (k : ℕ) → k ≡ refusal c → (k ≡ 0 → ⊥) → Promise c (left (record { code = k; count = 0; simple = false }) (c .output) (c .work))
-refused-kept c k e n = record { code = e; refused = λ z. record { count = refl; simple = refl; output = refl; work = refl }; done = λ z. absurd (n (e ∙ z)) }
+pub refused-kept : (c : Call) (k : ℕ) → k ≡ refusal c → (k ≡ 0 → ⊥) → Promise c (left (record { code = k; count = 0; simple = false; lists = 0 }) (c .output) (c .work))
+refused-kept c k e n = record { code = e; refused = λ z. record { count = refl; simple = refl; lists = refl; output = refl; work = refl }; done = λ z. absurd (n (e ∙ z)) }
 
 -- where the entry goes on: the call was judged, and no row refuses it
 pub record Going (p : ℕ) (f : List ℕ) (list : Weights) (out work : List ℕ) (j : Judgement) : Type 0 where
@@ -55,10 +56,10 @@ module _ {p : ℕ} {f : List ℕ} {list : Weights} {out work : List ℕ} {j : Ju
   pub work-room : 12 * (j .count + 1) ≤ length work
   work-room = rw (g .judged .count none) (accepted .rooms .work-fits)
 
-  pub done-kept : (simple : Bool) (out' mid work' : List ℕ) → (simple ≡ true) ↔ Simple p f
+  pub done-kept : (simple : Bool) (worked : ℕ) (out' mid work' : List ℕ) → (simple ≡ true) ↔ Simple p f → worked ≡ lists (listed list)
       → Answered p f (listed list) (j .count) out out' work mid → Cleared (12 * (j .count + 1)) mid work'
-      → Promise c (left (record { code = 0; count = j .count; simple = simple }) out' work')
-  done-kept simple out' mid work' mark a z =
+      → Promise c (left (record { code = 0; count = j .count; simple = simple; lists = worked }) out' work')
+  done-kept simple worked out' mid work' mark told a z =
       let n : j .count ≡ N c = g .judged .count none in
       let a' : Answered p f (weights c) (N c) out out' work mid = rw (listed-is list, n) at a in
       let z' : Cleared (room (N c)) mid work' = rw n at z in
@@ -68,6 +69,7 @@ module _ {p : ℕ} {f : List ℕ} {list : Weights} {out work : List ℕ} {j : Ju
         done = λ y. record {
           count = n;
           simple = mark;
+          lists = told ∙ ap lists (listed-is list);
           resolved = a' .resolved;
           words = a' .words;
           later = a' .later;

@@ -7,7 +7,8 @@ use mathlib.Core.List.{List, [], _∷_, map, List·Memᴰ, List·Memᴰ·head, L
 use mathlib.Core.Logic.{_↔_}
 use Prim.Native.Nat.{ℕ, _≤_, _<_}
 use native.Mathlib.Decide.{ℕ-discrete}
-use lib.ListN.{length, take}
+use native.Mathlib.Omega.{arith}
+use lib.ListN.{length, take, length-take}
 use lib.Seq.{take-append-seam}
 use lib.IntN.{ℤ}
 use Rattle.algebra.specs.Ring.{Ops, Laws}
@@ -21,6 +22,8 @@ use Rattle.polynomials.specs.Divisors.{Simple}
 use Rattle.definition.specs.Definition.{Resolvent}
 use Rattle.definition.specs.Roots.{product, values}
 use Rattle.definition.specs.Words.{split-words, values-below}
+use Rattle.definition.specs.Cost.{NumberOfLists, lists, most-lists}
+use Rattle.definition.specs.Merge.{lists-number, number-only, lists-most, most-mono}
 use Rattle.definition.specs.Answer.{resolvent}
 use Rattle.definition.specs.Refusals.{Call, weights, N, room, modulus-checks, polynomial-checks, weight-checks, room-checks, divisor-checks, checks, first, refusal, Accepted}
 use Rattle.definition.specs.Table.{row, row-exactly, not-refused}
@@ -60,7 +63,7 @@ module _ (c : Call) (e : Exit) (q : Promise c e) where
   pub success-exactly : (e .outcome .code ≡ 0) ↔ Accepted c
   success-exactly = (λ k. not-refused c .0 (sym (q .code) ∙ k), λ a. q .code ∙ not-refused c .1 a)
 
-  -- and a refusal gives N = 0 and simple = no, and touches nothing
+  -- and a refusal gives N = 0, simple = no and no list worked, and touches nothing
   pub refusal-touches-nothing : (e .outcome .code ≡ 0 → ⊥) → Refused c e
   refusal-touches-nothing n = q .refused (λ z. n (q .code ∙ z))
 
@@ -86,6 +89,18 @@ module _ (c : Call) (e : Exit) (q : Promise c e) where
     -- the mark is yes exactly if f and its derivative have greatest common divisor 1
     pub mark-exactly : (e .outcome .simple ≡ true) ↔ Simple (c .p) (c .f)
     mark-exactly = done .simple
+
+    -- Request 13: the number of lists worked is the one that its rule tells of the job's weights in the job's order
+    pub lists-told : (number : List ℤ → ℕ) → NumberOfLists number → e .outcome .lists ≡ number (weights c)
+    lists-told number rule = done .lists ∙ number-only lists-number rule (weights c)
+
+    -- it is at most V(r), so at most 1,957
+    pub lists-at-most : e .outcome .lists ≤ most-lists (c .r)
+    lists-at-most = omega (arith, done .lists, lists-most (weights c), most-mono (length (weights c)) (c .r) (omega (arith, length-take (c .r) (c .places))))
+
+    pub lists-at-most-1957 : e .outcome .lists ≤ 1957
+    unfolding most-lists
+    lists-at-most-1957 = omega (arith, lists-at-most, most-mono (c .r) 6 (success-exactly .0 success .list .high))
 
     -- Demand 3: where f is the product of x - a over any residues a, equal or not, the output is the product of x - v over the
     -- weighted sums v of all placements
@@ -125,6 +140,7 @@ pub record SameNumbers (e e' : Exit) : Type 0 where
   pub code : e .outcome .code ≡ e' .outcome .code
   pub count : e .outcome .count ≡ e' .outcome .count
   pub simple : e .outcome .simple ≡ e' .outcome .simple
+  pub lists : e .outcome .lists ≡ e' .outcome .lists
   pub words : take (e .outcome .count) (e .output) ≡ take (e' .outcome .count) (e' .output)
 
 module _ (c c' : Call) (same : Alike c c') where
@@ -149,6 +165,7 @@ module _ (c c' : Call) (same : Alike c c') where
           code = q .code ∙ same-refusal ∙ sym (q' .code);
           count = d .count ∙ same-N ∙ sym (d' .count);
           simple = same-mark _ _ (d .simple) (rw (same .p, same .f) (d' .simple));
+          lists = d .lists ∙ ap lists (same .weights) ∙ sym (d' .lists);
           words =
               rw (d .count, d' .count) (accepted-only c (not-refused c .0 z) _ (d .words) (d .resolved)
               ∙ same-resolvent
@@ -161,6 +178,7 @@ module _ (c c' : Call) (same : Alike c c') where
           code = q .code ∙ same-refusal ∙ sym (q' .code);
           count = d .count ∙ sym (d' .count);
           simple = d .simple ∙ sym (d' .simple);
+          lists = d .lists ∙ sym (d' .lists);
           words = rw (d .count, d' .count) refl;
         }
   ]

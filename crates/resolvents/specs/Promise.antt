@@ -1,4 +1,4 @@
--- What the resolvent entry promises of every call (document 01: "A job in numbers", "The numbers we send back").
+-- What the resolvent entry promises of every call (document 01: "A job in numbers", "The numbers we send back"; request 13).
 use mathlib.Core.Path.{_≡_}
 use mathlib.Core.Bool.{true, false}
 use mathlib.Core.List.{List}
@@ -8,6 +8,7 @@ use lib.ListN.{take, drop, replicate}
 use Rattle.residues.specs.Residues.{residues, Words}
 use Rattle.polynomials.specs.Divisors.{Simple}
 use Rattle.definition.specs.Definition.{Resolvent}
+use Rattle.definition.specs.Cost.{lists}
 use Rattle.definition.specs.Refusals.{Call, weights, N, room, refusal}
 use Rattle.weights.specs.declared.Weights.{Weights}
 use Rattle.resolvents.specs.declared.Outcome.{Outcome}
@@ -25,18 +26,20 @@ pub record Exit : Type 0 where
 abbrev pub left : Outcome → List ℕ → List ℕ → Exit
 left r output work = record { outcome = r; output = output; work = work }
 
--- a refusal: N = 0 and simple = no, and nothing lent is touched
+-- a refusal: N = 0, simple = no, no list worked, and nothing lent is touched
 pub record Refused (c : Call) (e : Exit) : Type 0 where
   pub count : e .outcome .count ≡ 0
   pub simple : e .outcome .simple ≡ false
+  pub lists : e .outcome .lists ≡ 0
   pub output : e .output ≡ c .output
   pub work : e .work ≡ c .work
 
--- a success: N and the mark; b1 to bN, words below p, in front of the output and later words as they were; the first 12(N+1)
--- words of work room zero and the rest as it was
+-- a success: N, the mark and the number of lists worked; b1 to bN, words below p, in front of the output and later words as they
+-- were; the first 12(N+1) words of work room zero and the rest as it was
 pub record Done (c : Call) (e : Exit) : Type 0 where
   pub count : e .outcome .count ≡ N c
   pub simple : (e .outcome .simple ≡ true) ↔ Simple (c .p) (c .f)
+  pub lists : e .outcome .lists ≡ lists (weights c)
   pub resolved : Resolvent (residues (c .p)) (c .f) (weights c) (take (N c) (e .output))
   pub words : Words (c .p) (take (N c) (e .output))
   pub later : drop (N c) (e .output) ≡ drop (N c) (c .output)

@@ -2,16 +2,20 @@
 -- the table A to L, where every exit that the promise allows has the row's numbers.
 use mathlib.Core.Path.{_≡_, refl, sym, ap, _∙_}
 use mathlib.Core.Bool.{Bool, true, false}
-use mathlib.Core.List.{List, [], _∷_, List·Memᴰ, List·Memᴰ·head, List·Memᴰ·tail}
+use mathlib.Core.List.{List, [], _∷_, List·Memᴰ, List·Memᴰ·head, List·Memᴰ·tail, List·Permᴰ, List·Permᴰ·cons, List·Permᴰ·swap, List·Permᴰ·trans}
 use Prim.Native.Nat.{ℕ, zero, suc, _<_}
 use native.Mathlib.Nat.{le-of-eq}
 use native.Mathlib.Omega.{arith}
 use lib.ListN.{length, getD, take, drop, replicate, length-replicate}
 use lib.IntN.{ℤ, pos}
 use Rattle.algebra.specs.Integer.{ℤ-eq}
+use Rattle.algebra.specs.Sum.{total}
+use Rattle.placements.specs.Multiplicity.{except, different}
+use Rattle.placements.specs.Merge.{replaced}
 use Rattle.placements.specs.Placements.{placements}
 use Rattle.polynomials.specs.Certificates.{bezout}
-use Rattle.definition.specs.Refusals.{Call, weights, N, room, Accepted}
+use Rattle.definition.specs.Cost.{lists-up-to, lists}
+use Rattle.definition.specs.Refusals.{Call, weights, N, room, refusal, Accepted}
 use Rattle.definition.specs.Table.{not-refused}
 use Rattle.definition.specs.Edges.{outcome, outcome-is}
 use Rattle.definition.specs.Cases.{Row, rows, call}
@@ -85,6 +89,25 @@ module _ (entry : Call → Exit) (keeps : Keeps entry) where
       let z : true ≡ false = sym (at 0 (omega arith) .simple) ∙ h (ask 0) (at 0 (omega arith) .code) ∙ sym (h (ask 4) (at 4 (omega arith) .code)) ∙ at 4 (omega arith) .simple in
       let y : _≡_ {A = ℕ} 0 1 = cc in
       absurd (omega arith)
+
+  -- the weights sorted first, or a number of lists that does not see their order in any other way: 1,1,2 has 16 lists and 2,1,1 has 11
+  abbrev on-three : List ℤ → Call
+  on-three L = record { p = 257; f = replicate 3 0; places = L; r = 3; output = replicate 3 0; work = replicate (room 3) 0 }
+
+  number-on-three : (L : List ℤ) → outcome (on-three L) .1 ≡ 0 → (entry (on-three L) .outcome .code ≡ 0) × (entry (on-three L) .outcome .lists ≡ lists (weights (on-three L)))
+  number-on-three L h =
+      let z : refusal (on-three L) ≡ 0 = ap (λ (o : ℕ × ℕ). o .1) (sym (outcome-is (on-three L))) ∙ h in
+      (keeps (on-three L) .code ∙ z, keeps (on-three L) .done z .lists)
+
+  pub order-not-seen : (g : List ℤ → ℕ) → ((L M : List ℤ) → List·Permᴰ L M → g L ≡ g M) → ((c : Call) → entry c .outcome .code ≡ 0 → entry c .outcome .lists ≡ g (weights c)) → ⊥
+  unfolding outcome lists lists-up-to different except replaced total ℤ-eq
+  order-not-seen g blind h =
+      let a = number-on-three (pos 1 ∷ pos 1 ∷ pos 2 ∷ []) refl in
+      let b = number-on-three (pos 2 ∷ pos 1 ∷ pos 1 ∷ []) refl in
+      let moved : List·Permᴰ (pos 1 ∷ pos 1 ∷ pos 2 ∷ []) (pos 2 ∷ pos 1 ∷ pos 1 ∷ []) =
+      List·Permᴰ·trans (List·Permᴰ·cons refl (List·Permᴰ·swap refl refl)) (List·Permᴰ·swap refl refl) in
+      let z : _≡_ {A = ℕ} 16 11 = sym (a .1) ∙ h _ (a .0) ∙ blind _ _ moved ∙ sym (h _ (b .0)) ∙ b .1 in
+      absurd (omega (arith, z))
 
   -- row 8 before row 7: three weights 0 on two coefficients get 7
   abbrev mixed : Call

@@ -1,22 +1,23 @@
 // The resolvent entry: numbers in, the resolvent's coefficients or a refusal out (document 01).
 use weights::Weights;
-ghost use mathlib.Core.Bool.{Bool};
 ghost use mathlib.Core.Path.{_≡_};
-ghost use Prim.Native.Nat.{ℕ, suc, _+_, _*_, _%_, _<_, _≤_};
+ghost use Prim.Native.Nat.{suc, _+_, _*_, _%_, _<_, _≤_};
 ghost use lib.Dec.{leb, eqb};
 ghost use lib.IntN.{pos};
-ghost use lib.ListN.{length, getD, take, drop, replicate};
+ghost use lib.ListN.{length, getD};
 ghost use Rattle.definition.specs.Refusals.{some-below, bad-weight, first, modulus-checks, polynomial-checks, weight-checks, room-checks, divisor-checks};
 ghost use Rattle.weights.specs.Lists.{listed};
 ghost use Rattle.resolvents.specs.Promise.{Promise, given, left};
 ghost use Rattle.resolvents.specs.Judged.{Judged};
 ghost use Rattle.resolvents.specs.Cleared.{Cleared};
+ghost use Rattle.resolvents.specs.Cost.{Told};
 
-// The number of the first rule broken, or 0; N; the mark.
+// The number of the first rule broken, or 0; N; the mark; the number of weight lists worked.
 pub struct Outcome {
     pub code: u32,
     pub count: usize,
     pub simple: bool,
+    pub lists: u32,
 }
 
 // The same number, and what the work needs where it is 0.
@@ -218,16 +219,41 @@ pub fn resolvent(p: u32, f: &[u32], list: Weights, out: &mut [u32], work: &mut [
             code,
             count: 0,
             simple: false,
+            lists: 0,
         };
     }
     let n = job.count;
     let mut scratch = [0u32; 26];
     let simple = polynomials::simple(p, f, &mut scratch);
-    engine::answer(p, f, list, n, job.product, out, work);
+    let lists = engine::answer(p, f, list, n, job.product, out, work);
     clear(12 * (n + 1), work);
     Outcome {
         code: 0,
         count: n,
         simple,
+        lists,
+    }
+}
+
+// What a job costs, told before it is worked: the number of row 6 or 8, or 0; the number of weight lists.
+pub struct Cost {
+    pub code: u32,
+    pub lists: u32,
+}
+
+// The lists that a job with these weights is worked by. Of n = r positions row 7 never applies, so the rows left are those of the list alone.
+pub fn lists(list: Weights) -> Cost
+    ensures { λ r. ⌜ Told (list .len) (listed list) r ⌝ }
+{
+    let row = weight_refusal(list.len, list);
+    if row != 0 {
+        return Cost {
+            code: row,
+            lists: 0,
+        };
+    }
+    Cost {
+        code: 0,
+        lists: cost::lists(list),
     }
 }

@@ -1,9 +1,10 @@
 -- From the last weight to the first: one place more, and what is counted and multiplied grows by the weight that stands there.
 use mathlib.Core.Path.{_≡_, sym, ap, _∙_}
 use mathlib.Core.List.{List, _∷_}
-use Prim.Native.Nat.{ℕ, suc, _+_, _*_, _-_, _≤_, _<_, _^_}
+use Prim.Native.Nat.{ℕ, suc, _+_, _*_, _-_, _≤_, _<_, _^_, min}
 use native.Mathlib.Nat.{mul-comm}
 use native.Mathlib.Numerals.{add-one}
+use native.Mathlib.Decide.{decLe}
 use native.Mathlib.Omega.{arith}
 use lib.IntN.{ℤ, pos}
 use lib.Signed.{mag}
@@ -21,6 +22,13 @@ use Rattle.weights.specs.declared.Weights.{Weights}
 -- behind the last weight there is nothing
 pub count-none : (L : List ℤ) (i : ℕ) (w : ℤ) → length L ≤ i → 0 ≡ count ℤ-eq w (drop i L)
 count-none L i w h = rw (drop-of-length-le L h, count-nil ℤ-eq w)
+
+-- the walk back to a place ends there, or at the last weight where that stands before it
+pub count-reached : (L : List ℤ) (i from : ℕ) (w : ℤ) → min from (length L) ≤ i → i ≤ length L → i ≤ from → count ℤ-eq w (drop i L) ≡ count ℤ-eq w (drop from L)
+count-reached L i from w low short far = elim (decLe (length L) from) [
+  | yes h ↦ sym (count-none L i w (omega arith)) ∙ count-none L from w h
+  | no h ↦ let e : i ≡ from = omega arith in rw e
+]
 
 pub factorials-none : (L : List ℤ) (i : ℕ) → length L ≤ i → 1 ≡ factorials ℤ-eq (drop i L)
 factorials-none L i h = rw (drop-of-length-le L h, factorials-nil ℤ-eq)
@@ -45,22 +53,18 @@ module _ (L : List ℤ) (i : ℕ) (some : 0 < i) (within : i ≤ length L) where
 same-word : (x y : ℤ) → mag x < 2 ^ 31 → mag y < 2 ^ 31 → ofZ w32 x ≡ ofZ w32 y → x ≡ y
 same-word x y hx hy e = sym (toZ-ofZ w32 x (record { sfits = hx })) ∙ ap (toZ w32) e ∙ toZ-ofZ w32 y (record { sfits = hy })
 
-module _ (s : Weights) (at i : ℕ) (from : at + 1 < i) (within : i ≤ length (listed s)) where
-  abbrev word : ℕ → ℤ
-  word k = getD (s .places) k (pos 0)
+module _ (s : Weights) (at i : ℕ) (w : ℤ) (is : w ≡ getD (listed s) at (pos 0)) (some : 0 < i) (within : i ≤ length (listed s)) where
+  abbrev word : ℤ
+  word = getD (s .places) (i - 1) (pos 0)
 
   abbrev behind : ℕ → ℕ
   behind k = count ℤ-eq (getD (listed s) at (pos 0)) (drop k (listed s))
 
-  held-at : (k : ℕ) → k < i → getD (listed s) k (pos 0) ≡ word k
-  held-at k h = listed-at s k (omega (arith, listed-min s))
+  word-listed : getD (listed s) (i - 1) (pos 0) ≡ word
+  word-listed = listed-at s (i - 1) (omega (arith, listed-min s))
 
-  pub copy-found : mag (word (i - 1)) < 2 ^ 31 → mag (word at) < 2 ^ 31 → ofZ w32 (word (i - 1)) ≡ ofZ w32 (word at) → behind i + 1 ≡ behind (i - 1)
-  copy-found hi ha e =
-      count-found (listed s) i (omega arith) within (getD (listed s) at (pos 0))
-      (held-at at (omega arith) ∙ sym (same-word _ _ hi ha e) ∙ sym (held-at (i - 1) (omega arith)))
+  pub copy-found : mag word < 2 ^ 31 → mag w < 2 ^ 31 → ofZ w32 word ≡ ofZ w32 w → behind i + 1 ≡ behind (i - 1)
+  copy-found hi hw e = count-found (listed s) i some within _ (sym is ∙ sym (same-word word w hi hw e) ∙ sym word-listed)
 
-  pub copy-missed : ¬ (ofZ w32 (word (i - 1)) ≡ ofZ w32 (word at)) → behind i ≡ behind (i - 1)
-  copy-missed n =
-      count-missed (listed s) i (omega arith) within (getD (listed s) at (pos 0))
-      (λ e. n (ap (ofZ w32) (sym (held-at (i - 1) (omega arith)) ∙ sym e ∙ held-at at (omega arith))))
+  pub copy-missed : ¬ (ofZ w32 word ≡ ofZ w32 w) → behind i ≡ behind (i - 1)
+  copy-missed n = count-missed (listed s) i some within _ (λ e. n (ap (ofZ w32) (sym word-listed ∙ sym e ∙ sym is)))

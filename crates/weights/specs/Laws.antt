@@ -2,7 +2,7 @@
 -- A field `[i32; 6]` is a list that has six members only where a function starts (`.good`), so the laws that need it ask for it.
 use mathlib.Core.Path.{_≡_, refl, _∙_}
 use mathlib.Core.Bool.{Bool, true, false, cond, _&&_, and-false, and-eq-true-iff}
-use mathlib.Core.List.{List, _∷_, _++_}
+use mathlib.Core.List.{List, [], _∷_, _++_}
 use Prim.Native.Nat.{ℕ, suc, _+_, _-_, _≤_, _<_, _^_, min}
 use native.Mathlib.Numerals.{add-one}
 use native.Mathlib.Omega.{arith}
@@ -76,6 +76,10 @@ module _ (s : Weights) where
   pub listed-min : length (listed s) ≡ min (s .len) (length (s .places))
   unfolding listed
   listed-min = length-take (s .len) (s .places)
+
+  pub listed-none : s .len ≡ 0 → listed s ≡ []
+  unfolding listed
+  listed-none h = rw h
 
   pub listed-at : (i : ℕ) → i < s .len → getD (listed s) i (pos 0) ≡ getD (s .places) i (pos 0)
   unfolding listed

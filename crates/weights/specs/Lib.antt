@@ -1,5 +1,6 @@
 pub mod Lists
 pub mod Laws
 pub mod Sizes
+pub mod Rests
 pub mod Numbers
 pub mod Promises

@@ -1,9 +1,10 @@
 -- Each promise decides its result: two results that it allows are equal.
 use mathlib.Core.Path.{_≡_, sym, _∙_}
 use Prim.Native.Nat.{ℕ}
-use lib.IntN.{ℤ}
+use lib.IntN.{ℤ, pos}
+use lib.ListN.{getD, drop}
 use Rattle.algebra.specs.Integer.{ℤ-eq}
-use Rattle.placements.specs.Multiplicity.{factorials}
+use Rattle.placements.specs.Multiplicity.{count, factorials}
 use Rattle.placements.specs.Number.{placed}
 use Rattle.weights.specs.Lists.{listed, without-at, with-sum-at}
 use Rattle.weights.specs.declared.Weights.{Weights}
@@ -13,6 +14,10 @@ without-decides s at a b h k = h ∙ sym k
 
 pub with-sum-decides : (s : Weights) (at : ℕ) (e : ℤ) (a b : Weights) → a ≡ with-sum-at s at e → b ≡ with-sum-at s at e → a ≡ b
 with-sum-decides s at e a b h k = h ∙ sym k
+
+pub copies-decides : (s : Weights) (at from a b : ℕ)
+    → a ≡ count ℤ-eq (getD (listed s) at (pos 0)) (drop from (listed s)) → b ≡ count ℤ-eq (getD (listed s) at (pos 0)) (drop from (listed s)) → a ≡ b
+copies-decides s at from a b h k = h ∙ sym k
 
 pub factorials-decides : (s : Weights) (a b : ℕ) → a ≡ factorials ℤ-eq (listed s) → b ≡ factorials ℤ-eq (listed s) → a ≡ b
 factorials-decides s a b h k = h ∙ sym k

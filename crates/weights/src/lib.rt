@@ -79,15 +79,24 @@ impl Weights {
         if n < CAPACITY { n } else { CAPACITY }
     }
 
-    // How often the weight at a place occurs behind it.
-    fn copies_behind(self, at: usize) -> u32
-        requires { ⌜ at < length (listed self) ⌝ }
-        ensures { λ r. ⌜ r ≡ count ℤ-eq (getD (listed self) at (pos 0)) (drop (at + 1) (listed self)) ⌝ }
+    // The weight at a place, 0 past the last.
+    fn weight_at(self, at: usize) -> i32
+        ensures { λ r. ⌜ r ≡ getD (listed self) at (pos 0) ⌝ }
+    {
+        if self.held() <= at {
+            return 0;
+        }
+        self.places[at]
+    }
+
+    // How often the weight at a place occurs from another place on.
+    pub fn copies(self, at: usize, from: usize) -> u32
+        ensures { λ r. ⌜ r ≡ count ℤ-eq (getD (listed self) at (pos 0)) (drop from (listed self)) ⌝ }
     {
         let mut i = self.held();
-        let weight = self.places[at];
+        let weight = self.weight_at(at);
         let mut copies = 0;
-        while i > at + 1 {
+        while i > from {
             i -= 1;
             if self.places[i] == weight {
                 copies += 1;
@@ -105,7 +114,7 @@ impl Weights {
         let mut at = self.held();
         while at > 0 {
             at -= 1;
-            product *= self.copies_behind(at) + 1;
+            product *= self.copies(at, at + 1) + 1;
         }
         product
     }

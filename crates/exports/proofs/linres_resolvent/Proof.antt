@@ -12,7 +12,9 @@ byte-is true = refl
 byte-is false = refl
 
 returns : tie.Need-returns
-returns c = record { outcome = c .before .before .before .before .before .resolvent-for .result; right = c .before .before .before .before .before .resolvent-for .ensures; code-is = refl; count-is = refl; simple-is = byte-is (c .before .before .before .before .before .resolvent-for .result .simple) }
+returns c =
+    let r = c .before .before .before .before .before .resolvent-for in
+    record { outcome = r .result; right = r .ensures; code-is = refl; count-is = refl; simple-is = byte-is (r .result .simple); lists-is = refl }
 
 pub linres-resolvent-spec : {M : Type 1} → statement M
 linres-resolvent-spec =

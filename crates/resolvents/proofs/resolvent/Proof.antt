@@ -41,9 +41,9 @@ resolvent-spec =
     ))
     (λ c. omega (arith, counted (going (judged (c .before .before .before .before))) .high))
     (λ c. omega (arith, counted (going (judged (c .before .before .before .before))) .high))
-    (λ c κs. let done = c .before .before .before .before .before in omega (arith, done .answer .ensures .work-same, work-room (going (judged done))))
+    (λ c κs. let done = c .before .before .before .before .before in omega (arith, done .answer .ensures .1 .work-same, work-room (going (judged done))))
     (λ c. search needs)
     (λ c. search needs)
     (λ c.
     let done = c .before .before .before .before .before .before .before .before in
-    done-kept (going (judged done)) _ _ _ _ (done .before .before .before .before .simple .ensures .0) (done .answer .ensures) (c .before .before .clear .ensures)))
+    done-kept (going (judged done)) _ _ _ _ _ (done .before .before .before .before .simple .ensures .0) (done .answer .ensures .0) (done .answer .ensures .1) (c .before .before .clear .ensures)))

@@ -12,10 +12,6 @@ use Rattle.weights.specs.Numbers.{factorials-small}
 use Rattle.weights.proofs.Counting.{factorials-none, factorials-more}
 use Rattle.weights.proofs.Weights.factorials.Statement.{statement}
 use Rattle.weights.proofs.Weights.factorials.Tie as tie
-use Rattle.weights.proofs.Weights.factorials.Reads as reads
-use Rattle.weights.proofs.Weights.factorials.Lts as lts
-use Rattle.weights.proofs.Weights.copies_behind.Reads as copies-behind-reads
-use Rattle.weights.proofs.Weights.held.Reads as held-reads
 
 abbrev Inv-loop : tie.InvT-loop
 Inv-loop self product₀ at₀ product at = (at ≤ length (listed self)) × (length (listed self) ≤ capacity) × (product ≡ factorials ℤ-eq (drop at (listed self)))
@@ -30,13 +26,13 @@ add-product : tie.Need-add-product Inv-loop μ-loop
 add-product c =
     let L = listed (c .before .before .before .before .args .self) in
     let i = c .before .before .loop .at in
-    omega (arith, c .copies-behind .ensures, count-le ℤ-eq (getD L (i - 1) (pos 0)) (drop (i - 1 + 1) L), length-drop (i - 1 + 1) L, c .before .before .loop .inv)
+    omega (arith, c .copies .ensures, count-le ℤ-eq (getD L (i - 1) (pos 0)) (drop (i - 1 + 1) L), length-drop (i - 1 + 1) L, c .before .before .loop .inv)
 
-more : (c : lts.After-copies-behind (held-reads.Asked, held-reads.Learnt, copies-behind-reads.Asked, copies-behind-reads.Learnt) reads.Pre reads.Post Inv-loop μ-loop)
-    → c .before .before .loop .product * (c .copies-behind .result + 1) ≡ factorials ℤ-eq (drop (c .before .before .loop .at - 1) (listed (c .before .before .before .before .args .self)))
+more : (c : tie.After-copies Inv-loop μ-loop)
+    → c .before .before .loop .product * (c .copies .result + 1) ≡ factorials ℤ-eq (drop (c .before .before .loop .at - 1) (listed (c .before .before .before .before .args .self)))
 more c =
     let l = c .before .before .loop in
-    factorials-more (listed (c .before .before .before .before .args .self)) (l .at) (search needs) (l .inv .0) _ _ (l .inv .2) (c .copies-behind .ensures)
+    factorials-more (listed (c .before .before .before .before .args .self)) (l .at) (search needs) (l .inv .0) _ _ (l .inv .2) (c .copies .ensures)
 
 mul-product : tie.Need-mul-product Inv-loop μ-loop
 mul-product c =
@@ -61,6 +57,7 @@ factorials-spec =
     μ-loop
     (λ c κs. tt)
     loop-holds
+    (λ c. search needs)
     (λ c. search needs)
     (λ c κs. search needs)
     add-product

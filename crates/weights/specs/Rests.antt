@@ -1,16 +1,16 @@
 -- What a weight list and the lists that it is told through have in common: the rest has the other weights, the rest with the
 -- first weight added at a place has their sum there, and the list's rule on sizes is kept by both.
 use mathlib.Core.Path.{_≡_, refl, ap, _∙_}
-use mathlib.Core.List.{List, [], _∷_}
+use mathlib.Core.List.{[], _∷_}
 use Prim.Native.Nat.{ℕ, _+_, _≤_, _<_}
 use native.Mathlib.Omega.{arith}
 use lib.IntN.{ℤ, pos}
 use lib.ListN.{length, getD}
 use Rattle.placements.specs.Places.{with-sum}
 use Rattle.weights.specs.declared.Weights.{Weights}
 use Rattle.weights.specs.Lists.{listed, without-at, with-sum-at}
-use Rattle.weights.specs.Laws.{listed-length, listed-first, without-len, with-sum-len}
+use Rattle.weights.specs.Laws.{listed-length, listed-none, listed-first, without-len, with-sum-len}
 use Rattle.weights.specs.Sizes.{Bounded, rest-bounded, collision-listed, collision-bounded}
 
 -- the rest with the first weight added at a place
 pub record Met (rest met : Weights) (first : ℤ) (j : ℕ) : Type 0 where
@@ -46,8 +46,4 @@ module _ (list : Weights) (some : 1 ≤ list .len) (b : Bounded list) where
 pub one-listed : (list : Weights) (first : ℤ) → list .len ≡ 1 → Bounded list → first ≡ getD (list .places) 0 (pos 0) → listed list ≡ first ∷ []
 one-listed list first one b e =
     let r = rest-facts list (omega arith) b (without-at list 0) first e refl in
-    r .whole ∙ ap (λ L. first ∷ L) (none (listed (without-at list 0)) (omega (arith, r .long, r .shorter)))
-  where
-    none : (L : List ℤ) → length L ≡ 0 → L ≡ []
-    none [] h = refl
-    none (w ∷ L) h = absurd (omega arith)
+    r .whole ∙ ap (λ L. first ∷ L) (listed-none (without-at list 0) (omega (arith, r .shorter)))
