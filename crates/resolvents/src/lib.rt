@@ -37,7 +37,7 @@ fn modulus_refusal(p: u32) -> u32
     if p > 2147483647 {
         return 2;
     }
-    if residues::is_prime(p) { 0 } else { 3 }
+    if primes::is_prime(p) { 0 } else { 3 }
 }
 
 // Whether some coefficient is p or more.
