@@ -32,8 +32,8 @@ uint32_t linres_resolvent(uint32_t p, const uint32_t *f, size_t n, const int32_t
                           size_t out_len, uint32_t *work, size_t work_len, size_t *count, uint32_t *simple, uint32_t *lists);
 
 /* What a job with these weights costs, told without working it: 0 comes back and *lists is what linres_resolvent says of every job with
-   them that it answers, from 2 to 1957. Or the number of row 6 or 8 of document 01's table comes back, by which it refuses every such
-   job that breaks no row before, and *lists is 0. */
+   them that it answers, from 2 to 1957. Or the number of row 6 or 8 of document 01's table comes back, and *lists is 0: no job with these
+   weights is answered, and one that linres_resolvent refuses by row 6 or 8 it refuses by that number. */
 uint32_t linres_lists(const int32_t *weights, size_t r, uint32_t *lists);
 
 #endif

@@ -83,8 +83,8 @@ told-kept w list all front t h = elim (decLe (length w) 6) [
   | yes few ↦ alike all (front ∙ take-all 6 w few) h
   | no many ↦ record {
     code = h .code ∙ six (listed list) _ all many ∙ sym (six w _ refl many);
-    refused = λ n. h .refused (not-none (six (listed list) _ all many));
-    told = λ z. absurd (not-none (six w _ refl many) z);
+    refused = λ n. h .refused (not-zero (six (listed list) _ all many));
+    told = λ z. absurd (not-zero (six w _ refl many) z);
   }
 ]
   where
@@ -94,8 +94,8 @@ told-kept w list all front t h = elim (decLe (length w) 6) [
     six : (L : List ℤ) (r : ℕ) → r ≡ length w → ¬ (length w ≤ 6) → list-refusal r L ≡ 6
     six L r e n = six-alone r L (omega (arith, e))
 
-    not-none : {n : ℕ} → n ≡ 6 → n ≡ 0 → ⊥
-    not-none e f = absurd (omega (arith, e, f))
+    not-zero : {n : ℕ} → n ≡ 6 → n ≡ 0 → ⊥
+    not-zero e f = absurd (omega (arith, e, f))
 
 -- what stands in the rooms makes no difference to the number
 pub job-refusal : (j : Job) (out work : List ℕ) → length out ≡ 1024 → length work ≡ room 1024 → refusal (asked (j .modulus) (j .coeffs) (j .weights) out work) ≡ refusal (call j)

@@ -6,10 +6,10 @@ use Prim.Native.Nat.{ℕ, suc, _+_, _*_, _≤_, _<_, _%_}
 use lib.Dec.{leb, ltb, eqb}
 use borrow.Author.Tests.{lt-ltb, le-ltb, le-leb, lt-leb, eq-eqb, ne-eqb}
 use lib.ListN.{length, getD}
-use lib.IntN.{ℤ, pos}
+use lib.IntN.{ℤ}
 use Rattle.residues.specs.Prime.{Prime}
 use Rattle.residues.specs.Trial.{isPrime, isPrime-iff}
-use Rattle.definition.specs.Refusals.{some-below, bad-weight, first, modulus-checks, polynomial-checks, weight-checks, room-checks, divisor-checks}
+use Rattle.definition.specs.Refusals.{some-below, some-bad, first, modulus-checks, polynomial-checks, weight-checks, room-checks, divisor-checks}
 use Rattle.definition.specs.Table.{first-nil, first-holds, first-passes, or-none, or-right, modulus-good}
 
 or-left : {a : Bool} (b : Bool) → a ≡ true → (a || b) ≡ true
@@ -66,17 +66,17 @@ module _ (n r : ℕ) (L : List ℤ) where
   many-weights h = sym (first-holds 6 _ (or-right (eqb r 0) (lt-ltb 6 r h)))
 
   module _ (some : r ≡ 0 → ⊥) (few : r ≤ 6) where
-    number : first (weight-checks n r L) ≡ first ((ltb n r, 7) ∷ (some-below (λ i. bad-weight (getD L i (pos 0))) (length L), 8) ∷ [])
+    number : first (weight-checks n r L) ≡ first ((ltb n r, 7) ∷ (some-bad L, 8) ∷ [])
     unfolding weight-checks
     number = first-passes 6 _ (or-none (ne-eqb r 0 some) (le-ltb 6 r few))
 
     pub above-degree : n < r → 7 ≡ first (weight-checks n r L)
     above-degree h = sym (number ∙ first-holds 7 _ (lt-ltb n r h))
 
-    pub wrong-weight : r ≤ n → some-below (λ i. bad-weight (getD L i (pos 0))) (length L) ≡ true → 8 ≡ first (weight-checks n r L)
+    pub wrong-weight : r ≤ n → some-bad L ≡ true → 8 ≡ first (weight-checks n r L)
     wrong-weight h e = sym (number ∙ first-passes 7 _ (le-ltb n r h) ∙ first-holds 8 [] e)
 
-    pub good-weights : r ≤ n → some-below (λ i. bad-weight (getD L i (pos 0))) (length L) ≡ false → 0 ≡ first (weight-checks n r L)
+    pub good-weights : r ≤ n → some-bad L ≡ false → 0 ≡ first (weight-checks n r L)
     good-weights h e = sym (number ∙ first-passes 7 _ (le-ltb n r h) ∙ first-passes 8 [] e ∙ first-nil)
 
 module _ (p n output work : ℕ) where

@@ -51,6 +51,10 @@ module _ (c : Call) (e : Exit) (q : Promise c e) (t : Cost) (h : Told (c .r) (we
       let none : list-refusal (c .r) (weights c) ≡ 0 = sym (alone (c .r) (weights c)) ∙ weight-good _ _ _ .1 (record { some = g .some; high = g .high; fits = le-refl _; each = g .each }) in
       (h .code ∙ none, h .told none ∙ sym (q .done z .lists))
 
+  -- so no job with a list that is refused is answered
+  pub never-answered : (t .code ≡ 0 → ⊥) → e .outcome .code ≡ 0 → ⊥
+  never-answered n k = n (answered-told k .0)
+
   -- and a list that the entry refuses by row 6 or 8 is refused by that number
   pub refused-told-6 : e .outcome .code ≡ 6 → t .code ≡ 6
   unfolding list-refusal list-checks checks modulus-checks polynomial-checks weight-checks room-checks divisor-checks

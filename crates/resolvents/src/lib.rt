@@ -3,9 +3,8 @@ use weights::Weights;
 ghost use mathlib.Core.Path.{_≡_};
 ghost use Prim.Native.Nat.{suc, _+_, _*_, _%_, _<_, _≤_};
 ghost use lib.Dec.{leb, eqb};
-ghost use lib.IntN.{pos};
 ghost use lib.ListN.{length, getD};
-ghost use Rattle.definition.specs.Refusals.{some-below, bad-weight, first, modulus-checks, polynomial-checks, weight-checks, room-checks, divisor-checks};
+ghost use Rattle.definition.specs.Refusals.{some-below, bad-weight, some-bad, first, modulus-checks, polynomial-checks, weight-checks, room-checks, divisor-checks};
 ghost use Rattle.weights.specs.Lists.{listed};
 ghost use Rattle.resolvents.specs.Promise.{Promise, given, left};
 ghost use Rattle.resolvents.specs.Judged.{Judged};
@@ -83,7 +82,7 @@ fn is_bad(e: i32) -> bool
 // Whether some weight of the list is.
 fn has_bad(list: Weights) -> bool
     requires { ⌜ list .len ≤ 6 ⌝ }
-    ensures { λ r. ⌜ r ≡ some-below (λ i. bad-weight (getD (listed list) i (pos 0))) (length (listed list)) ⌝ }
+    ensures { λ r. ⌜ r ≡ some-bad (listed list) ⌝ }
 {
     let r = list.len;
     let mut i = 0;
