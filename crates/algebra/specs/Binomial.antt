@@ -99,7 +99,7 @@ module _ {A : Type 0} (o : Ops A) where
   expand k f = sum o (suc k) (λ i. o .mul (nat o (choose k i)) (f i (k - i)))
 
 module _ {A : Type 0} {o : Ops A} (s : Semi o) where
-  open Ops o using (zero as 𝟘, one as 𝟙, add as _⊕_, mul as _⊗_)
+  open Ops o using (add as _⊕_, mul as _⊗_)
 
   infixl 60 _⊕_
   infixl 70 _⊗_

@@ -1,11 +1,12 @@
--- Maps that keep the operations, and what they keep besides. No law of either side is used.
+-- Maps that keep the operations, and what they keep besides: whatever is made of the operations alone, as powers, sums and the
+-- coefficients of a product of x - a are, by induction on how it is made. No law of either side is used.
 use mathlib.Core.Path.{_≡_, ap, _∙_}
 use mathlib.Core.List.{List, [], _∷_, map}
 use Prim.Native.Nat.{ℕ, zero, suc}
 use lib.IntN.{ℤ}
 use Rattle.algebra.specs.Ring.{Ops}
 use Rattle.algebra.specs.Power.{pow, pow-zero, pow-suc, nat, nat-zero, nat-suc, int, int-pos, int-negsuc}
-use Rattle.algebra.specs.Sum.{sum, sum-zero, sum-suc, total, total-nil, total-cons}
+use Rattle.algebra.specs.Sum.{sum, sum-zero, sum-suc}
 use Rattle.algebra.specs.Series.{monomial-here, monomial-past}
 use Rattle.algebra.specs.Newton.{coeff, coeff-nil, coeff-cons, times-root-zero, times-root-suc}
 
@@ -42,10 +43,6 @@ module _ {A B : Type 0} {o : Ops A} {q : Ops B} {φ : A → B} (m : Hom o q φ) 
   pub hom-sum : (n : ℕ) (g : ℕ → A) → φ (sum o n g) ≡ sum q n (λ i. φ (g i))
   hom-sum zero g = simp (sum-zero, m .at-zero)
   hom-sum (suc n) g = simp (sum-suc, m .at-add, hom-sum n g)
-
-  pub hom-total : {X : Type 0} (xs : List X) (f : X → A) → φ (total o xs f) ≡ total q xs (λ x. φ (f x))
-  hom-total [] f = simp (total-nil, m .at-zero)
-  hom-total (x ∷ xs) f = simp (total-cons, m .at-add, hom-total xs f)
 
   pub hom-coeff : (xs : List A) (k : ℕ) → φ (coeff o xs k) ≡ coeff q (map φ xs) k
   hom-coeff [] zero = simp (coeff-nil, monomial-here, m .at-one)

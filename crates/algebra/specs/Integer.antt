@@ -54,7 +54,10 @@ every P z up down (ℤ.negsuc (suc n)) = down (ℤ.negsuc n) (every P z up down 
 +ℤ-*ℤ a b c = *ℤ-comm (a +ℤ b) c ∙ *ℤ-+ℤ c a b ∙ ap₂ _+ℤ_ (*ℤ-comm c a) (*ℤ-comm c b)
 
 negℤ-*ℤ : (a b : ℤ) → negℤ a *ℤ b ≡ negℤ (a *ℤ b)
-negℤ-*ℤ a b = sym (+ℤ-negℤ-cancel (negℤ a *ℤ b) (a *ℤ b)) ∙ ap (λ x. x +ℤ negℤ (a *ℤ b)) (sym (+ℤ-*ℤ (negℤ a) a b) ∙ ap (λ x. x *ℤ b) (+ℤ-invl a) ∙ zero-*ℤ b) ∙ +ℤ-idl (negℤ (a *ℤ b))
+negℤ-*ℤ a b =
+    sym (+ℤ-negℤ-cancel (negℤ a *ℤ b) (a *ℤ b))
+    ∙ ap (λ x. x +ℤ negℤ (a *ℤ b)) (sym (+ℤ-*ℤ (negℤ a) a b) ∙ ap (λ x. x *ℤ b) (+ℤ-invl a) ∙ zero-*ℤ b)
+    ∙ +ℤ-idl (negℤ (a *ℤ b))
 
 *ℤ-assoc : (a b c : ℤ) → a *ℤ b *ℤ c ≡ a *ℤ (b *ℤ c)
 *ℤ-assoc a b c = every (λ m. m *ℤ b *ℤ c ≡ m *ℤ (b *ℤ c))

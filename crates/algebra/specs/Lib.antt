@@ -5,7 +5,6 @@ pub mod Binomial
 pub mod Mix
 pub mod Series
 pub mod Newton
-pub mod Product
 pub mod Hom
 pub mod Natural
 pub mod Integer

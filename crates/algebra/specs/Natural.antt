@@ -1,4 +1,5 @@
--- The natural numbers as a semiring, and induction from all smaller numbers.
+-- The natural numbers as a semiring, so that what is proved of sums over any semiring counts things, and induction from all
+-- smaller numbers.
 use mathlib.Core.Path.{_≡_, ap, _∙_}
 use mathlib.Core.List.{List, [], _∷_}
 use Prim.Native.Nat.{ℕ, zero, suc, _+_, _*_, _<_}

@@ -4,16 +4,16 @@
 -- induction on the list, by θ (1 - a z) = - a z and (1 - a z) · (a z + a² z² + ..) = a z.
 use mathlib.Core.Path.{_≡_, refl, sym, ap, _∙_, fun-ext}
 use mathlib.Core.List.{List, [], _∷_}
-use Prim.Native.Nat.{ℕ, zero, suc, _+_, _-_, _<_}
+use Prim.Native.Nat.{ℕ, zero, suc, _-_, _<_}
 use native.Mathlib.Nat as N
 use native.Mathlib.Omega.{arith}
 use lib.ListN.{length}
-use Rattle.algebra.specs.Ring.{Ops, Semi, Laws}
+use Rattle.algebra.specs.Ring.{Ops, Laws}
 use Rattle.algebra.specs.Ring as R
 use Rattle.algebra.specs.Power.{pow, pow-zero, pow-suc, nat, nat-zero, nat-one, nat-suc}
 use Rattle.algebra.specs.Sum.{sum, sum-suc, sum-cong, sum-first, total, total-nil, total-cons}
-use Rattle.algebra.specs.Series.{series, series-laws, monomial, monomial-here, monomial-past, monomial-first, monomial-suc}
-use Rattle.algebra.specs.Series.{monomial-under, monomial-over, θ, θ-at, θ-add, θ-mul, θ-neg, θ-one, θ-monomial, zero-at, one-at, add-at, neg-at, mul-at}
+use Rattle.algebra.specs.Series.{series, series-laws, monomial, monomial-here, monomial-past, monomial-under, monomial-over}
+use Rattle.algebra.specs.Series.{θ, θ-at, θ-add, θ-mul, θ-neg, θ-one, θ-monomial, zero-at, add-at, neg-at, mul-at}
 
 module _ {A : Type 0} (o : Ops A) where
   -- the sum of the k-th powers of the listed numbers
@@ -89,19 +89,19 @@ module _ {A : Type 0} (o : Ops A) where
   abbrev factor : A → ℕ → A
   factor a = series o .add (series o .one) (series o .neg (root a))
 
--- what a step comes to, in any ring
+-- what one root more comes to, in any ring
 module _ {A : Type 0} {o : Ops A} (l : Laws o) where
   open Ops o using (zero as 𝟘, one as 𝟙, add as _⊕_, mul as _⊗_, neg as ⊖_)
 
   infixl 60 _⊕_
   infixl 70 _⊗_
   infix 80 ⊖_
-  expand : (x f : A) → (𝟙 ⊕ ⊖ x) ⊗ f ≡ f ⊕ ⊖ (x ⊗ f)
-  expand x f = simp (R.ring, l, l .semi)
+  one-minus : (x f : A) → (𝟙 ⊕ ⊖ x) ⊗ f ≡ f ⊕ ⊖ (x ⊗ f)
+  one-minus x f = simp (R.ring, l, l .semi)
 
   -- E = 1 - a z, x = a z, c the coefficients, d = θ c, s the power sums, g the powers of a
-  step : (E x c s g d : A) → E ⊗ g ≡ x → d ⊕ c ⊗ s ≡ 𝟘 → (⊖ x ⊗ c ⊕ E ⊗ d) ⊕ E ⊗ c ⊗ (g ⊕ s) ≡ 𝟘
-  step E x c s g d p q = rw (← p) (regroup ∙ rw q (R.mul-zero (l .semi) E))
+  one-root-more : (E x c s g d : A) → E ⊗ g ≡ x → d ⊕ c ⊗ s ≡ 𝟘 → (⊖ x ⊗ c ⊕ E ⊗ d) ⊕ E ⊗ c ⊗ (g ⊕ s) ≡ 𝟘
+  one-root-more E x c s g d p q = rw (← p) (regroup ∙ rw q (R.mul-zero (l .semi) E))
     where
       regroup : (⊖ (E ⊗ g) ⊗ c ⊕ E ⊗ d) ⊕ E ⊗ c ⊗ (g ⊕ s) ≡ E ⊗ (d ⊕ c ⊗ s)
       regroup = simp (R.ring, l, l .semi)
@@ -112,7 +112,7 @@ module _ {A : Type 0} {o : Ops A} (l : Laws o) where
   infixl 60 _⊕_
   infixl 70 _⊗_
   infix 80 ⊖_
-  open Ops (series o) using (zero as 0ˢ, one as 1ˢ, add as _+ˢ_, mul as _*ˢ_, neg as -ˢ_)
+  open Ops (series o) using (zero as 0ˢ, add as _+ˢ_, mul as _*ˢ_, neg as -ˢ_)
 
   infixl 60 _+ˢ_
   infixl 70 _*ˢ_
@@ -136,7 +136,7 @@ module _ {A : Type 0} {o : Ops A} (l : Laws o) where
   root-mul-suc a f k = ap (root o a *ˢ f) (omega arith) ∙ monomial-over (l .semi) a 1 f k
 
   times-root-is : (a : A) (f : ℕ → A) → times-root o a f ≡ factor o a *ˢ f
-  times-root-is a f = fun-ext at ∙ sym (expand ls (root o a) f)
+  times-root-is a f = fun-ext at ∙ sym (one-minus ls (root o a) f)
     where
       at : (k : ℕ) → times-root o a f k ≡ (f +ˢ -ˢ (root o a *ˢ f)) k
       at zero = times-root-zero o a f ∙ sym (add-at o f _ 0 ∙ rw (neg-at o (root o a *ˢ f) 0, monomial-under (l .semi) a 1 f 0 (omega arith)) (simp (R.ring, l, l .semi)))
@@ -160,7 +160,7 @@ module _ {A : Type 0} {o : Ops A} (l : Laws o) where
   unfolding coeff powers
   newton-series [] = rw (R.mul-zero (ls .semi), R.add-zero (ls .semi)) (unfold series in θ-one (l .semi))
   newton-series (a ∷ xs) = rw (times-root-is a (coeff o xs), θ-mul (l .semi), θ-factor a)
-      (step ls (factor o a) (root o a) (coeff o xs) (powers o xs) (geometric o a) (θ o (coeff o xs)) (factor-geometric a) (newton-series xs))
+      (one-root-more ls (factor o a) (root o a) (coeff o xs) (powers o xs) (geometric o a) (θ o (coeff o xs)) (factor-geometric a) (newton-series xs))
 
   powers-zero : (xs : List A) → powers o xs 0 ≡ 𝟘
   unfolding powers
@@ -175,8 +175,9 @@ module _ {A : Type 0} {o : Ops A} (l : Laws o) where
   powers-pos : (xs : List A) (k : ℕ) → 0 < k → powers o xs k ≡ power-sum o xs k
   powers-pos xs (suc k) h = powers-suc xs k
 
-  pub newton : (xs : List A) (k : ℕ) → 0 < k → nat o k ⊗ coeff o xs k ⊕ sum o k (λ i. coeff o xs i ⊗ power-sum o xs (k - i)) ≡ 𝟘
-  newton xs k h = rw (← tail) (simp (add-at, θ-at, mul-at, zero-at) at (ap (λ f. f k) (newton-series xs)))
+  -- Newton's identity
+  newton-identity : (xs : List A) (k : ℕ) → 0 < k → nat o k ⊗ coeff o xs k ⊕ sum o k (λ i. coeff o xs i ⊗ power-sum o xs (k - i)) ≡ 𝟘
+  newton-identity xs k h = rw (← tail) (simp (add-at, θ-at, mul-at, zero-at) at (ap (λ f. f k) (newton-series xs)))
     where
       tail : sum o (suc k) (λ i. coeff o xs i ⊗ powers o xs (k - i)) ≡ sum o k (λ i. coeff o xs i ⊗ power-sum o xs (k - i))
       tail = rw (sum-suc o k (λ i. coeff o xs i ⊗ powers o xs (k - i)), N.sub-self, powers-zero xs, R.mul-zero (l .semi), R.add-zero (l .semi))
@@ -192,4 +193,4 @@ module _ {A : Type 0} {o : Ops A} (l : Laws o) where
   -- the sum of the k-th powers, by the coefficients and the sums before it
   pub newton-next : (xs : List A) (k : ℕ) → power-sum o xs (suc k) ≡ ⊖ (nat o (suc k) ⊗ coeff o xs (suc k) ⊕ sum o k (λ i. coeff o xs (suc i) ⊗ power-sum o xs (k - i)))
   newton-next xs k = R.neg-unique l _ _
-      (simp (R.sums, l .semi) (simp (sum-first, N.suc-sub-suc, N.sub-zero, coeff-zero, R.one-mul, R.sums, l .semi) at (newton xs (suc k) (omega arith))))
+      (simp (R.sums, l .semi) (simp (sum-first, N.suc-sub-suc, N.sub-zero, coeff-zero, R.one-mul, R.sums, l .semi) at (newton-identity xs (suc k) (omega arith))))

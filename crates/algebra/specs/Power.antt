@@ -1,4 +1,5 @@
--- Powers, and the whole numbers in a ring.
+-- Powers, and the numbers 1 + .. + 1 and their opposites in a ring. Taking a whole number there keeps sums, products and opposites;
+-- with signs that comes down to n - m for m ≤ n, which is the number that makes n with m.
 use mathlib.Core.Path.{_≡_, refl, sym, ap, _∙_}
 use mathlib.Core.Bool.{Bool, true, false, not, cond}
 use Prim.Native.Nat.{ℕ, zero, suc, _+_, _*_, _-_, _≤_, _<_}
@@ -47,13 +48,10 @@ module _ {A : Type 0} (o : Ops A) where
   int-negsuc n = refl
 
 module _ {A : Type 0} {o : Ops A} (s : Semi o) where
-  open Ops o using (zero as 𝟘, one as 𝟙, add as _⊕_, mul as _⊗_)
+  open Ops o using (one as 𝟙, add as _⊕_, mul as _⊗_)
 
   infixl 60 _⊕_
   infixl 70 _⊗_
-  pub pow-one : (x : A) → pow o x 1 ≡ x
-  pow-one x = pow-suc o x 0 ∙ simp (pow-zero, R.mul-one, s)
-
   pub pow-add : (x : A) (i j : ℕ) → pow o x (i + j) ≡ pow o x i ⊗ pow o x j
   pow-add x zero j = simp (N.zero-add, pow-zero, R.one-mul, s)
   pow-add x (suc i) j = simp (N.suc-add, pow-suc, pow-add x i j, R.products, s)
@@ -74,7 +72,7 @@ module _ {A : Type 0} {o : Ops A} (s : Semi o) where
   nat-mul (suc i) j = simp (N.suc-mul, nat-suc, nat-add, nat-mul i j, R.semiring, s)
 
 module _ {A : Type 0} {o : Ops A} (l : Laws o) where
-  open Ops o using (zero as 𝟘, one as 𝟙, add as _⊕_, mul as _⊗_, neg as ⊖_)
+  open Ops o using (add as _⊕_, mul as _⊗_, neg as ⊖_)
 
   infixl 60 _⊕_
   infixl 70 _⊗_

@@ -1,8 +1,8 @@
 -- Commutative semirings and rings: the operations, the laws, and what follows from them at once.
 -- A definition takes the operations, `o : Ops A`. A law takes `s : Semi o`, or `l : Laws o` where it needs the opposite, so
 -- that what needs no opposite holds of the natural numbers too.
--- Identities are proved in one way: `simp (R.semiring, s)`, or `simp (R.ring, l, l .semi)` where there is an opposite. Both
--- multiply out and sort. They work over variables of any ring; a concrete ring takes the identity by instantiation.
+-- `simp (R.semiring, s)`, and `simp (R.ring, l, l .semi)` where there is an opposite, prove an identity between variables of a
+-- ring: they multiply out and sort. A concrete ring takes the identity by instantiation.
 use mathlib.Core.Path.{_≡_, sym, ap, _∙_}
 
 pub record Ops (A : Type 0) : Type 0 where
@@ -83,7 +83,7 @@ module _ {A : Type 0} {o : Ops A} (s : Semi o) where
   pub ruleset semiring = (sums, products, mul-add, add-mul)
 
 module _ {A : Type 0} {o : Ops A} (l : Laws o) where
-  open Ops o using (zero as 𝟘, one as 𝟙, add as _⊕_, mul as _⊗_, neg as ⊖_)
+  open Ops o using (zero as 𝟘, add as _⊕_, mul as _⊗_, neg as ⊖_)
 
   infixl 60 _⊕_
   infixl 70 _⊗_
@@ -140,8 +140,9 @@ module _ {A : Type 0} {o : Ops A} (l : Laws o) where
   pub eq-sub : (a b c : A) → a ⊕ b ≡ c → a ≡ c ⊕ ⊖ b
   eq-sub a b c e = sym (rw (← e) (add-assoc (l .semi) a b (⊖ b) ∙ rw (add-neg, add-zero (l .semi))))
 
-  pub eq-of-sub-zero : (a b : A) → a ⊕ ⊖ b ≡ 𝟘 → a ≡ b
-  eq-of-sub-zero a b e = eq-sub a (⊖ b) 𝟘 e ∙ rw (neg-neg, zero-add (l .semi))
+  -- the opposite of a sum changes places with a part of the sum
+  pub neg-swap : (a b c : A) → a ≡ ⊖ (b ⊕ c) → b ≡ ⊖ (a ⊕ c)
+  neg-swap a b c e = rw e (sym (simp (sums, l .semi, neg-sum, neg-neg, add-neg)))
 
   pub ruleset signs = (neg-neg, neg-zero, neg-sum, mul-neg, neg-mul, add-neg, neg-add, cancel, cancel-left, cancel₁, cancel₂, cancel₃, cancel₄)
 

@@ -10,8 +10,8 @@ use native.Mathlib.Decide.{ℕ-discrete}
 use native.Mathlib.Omega.{arith}
 use Rattle.algebra.specs.Ring.{Ops, Semi, Laws}
 use Rattle.algebra.specs.Ring as R
-use Rattle.algebra.specs.Power.{nat, nat-zero, nat-one, nat-suc, nat-add}
-use Rattle.algebra.specs.Sum.{sum, sum-suc, sum-zero, sum-cong, sum-one, sum-add, mul-sum, sum-first}
+use Rattle.algebra.specs.Power.{nat, nat-zero, nat-add}
+use Rattle.algebra.specs.Sum.{sum, sum-cong, sum-one, sum-add, mul-sum, sum-first}
 
 module _ {A : Type 0} (o : Ops A) where
   -- c z^s

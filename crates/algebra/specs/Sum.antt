@@ -1,4 +1,5 @@
--- Finite sums: by place, g 0 + .. + g (n - 1), and over the members of a list.
+-- Finite sums: by place, g 0 + .. + g (n - 1), and over the members of a list. Each law is an induction on the number of terms or on
+-- the list; no law takes more of the numbers than that they are a semiring, and the opposites a ring.
 use mathlib.Core.Path.{_≡_, refl, sym, ap, _∙_}
 use mathlib.Core.List.{List, [], _∷_, _++_, map, flatMap, List·Memᴰ, List·Memᴰ·head as here, List·Memᴰ·tail as later}
 use Prim.Native.Nat.{ℕ, zero, suc, _+_, _-_, _<_}
@@ -51,7 +52,7 @@ module _ {A : Type 0} (o : Ops A) where
     total-cong (x ∷ xs) f g h = rw (total-cons x xs f, total-cons x xs g, h x (here refl), total-cong xs f g (λ y m. h y (later m)))
 
 module _ {A : Type 0} {o : Ops A} (s : Semi o) where
-  open Ops o using (zero as 𝟘, one as 𝟙, add as _⊕_, mul as _⊗_)
+  open Ops o using (zero as 𝟘, add as _⊕_, mul as _⊗_)
 
   infixl 60 _⊕_
   infixl 70 _⊗_
@@ -70,10 +71,6 @@ module _ {A : Type 0} {o : Ops A} (s : Semi o) where
   mul-sum c zero f = simp (sum-zero, R.mul-zero, s)
   mul-sum c (suc n) f = simp (sum-suc, R.mul-add, mul-sum c n f, s)
 
-  pub sum-mul : (c : A) (n : ℕ) (f : ℕ → A) → sum o n f ⊗ c ≡ sum o n (λ i. f i ⊗ c)
-  sum-mul c zero f = simp (sum-zero, R.zero-mul, s)
-  sum-mul c (suc n) f = simp (sum-suc, R.add-mul, sum-mul c n f, s)
-
   -- the first term apart
   pub sum-first : (n : ℕ) (g : ℕ → A) → sum o (suc n) g ≡ g 0 ⊕ sum o n (λ i. g (suc i))
   sum-first zero g = sum-one g ∙ simp (sum-zero, R.add-zero, s)
@@ -87,17 +84,6 @@ module _ {A : Type 0} {o : Ops A} (s : Semi o) where
   pub sum-reverse : (n : ℕ) (g : ℕ → A) → sum o (suc n) g ≡ sum o (suc n) (λ i. g (n - i))
   sum-reverse zero g = sum-one g ∙ sym (sum-one (λ i. g (0 - i)))
   sum-reverse (suc n) g = rw (sum-suc o (suc n) g, sum-reverse n g, sum-first (suc n) (λ i. g (suc n - i))) (simp (N.suc-sub-suc, N.sub-zero, R.add-comm, s))
-
-  -- a triangle by rows and by diagonals
-  pub sum-triangle : (n : ℕ) (g : ℕ → ℕ → A) → sum o n (λ k. sum o (suc k) (λ i. g i (k - i))) ≡ sum o n (λ i. sum o (n - i) (λ j. g i j))
-  sum-triangle zero g = simp sum-zero
-  sum-triangle (suc n) g = sum-suc o n _ ∙ rw (sum-triangle n g) (sym right)
-    where
-      inner : (i : ℕ) → i < suc n → sum o (suc n - i) (λ j. g i j) ≡ sum o (n - i) (λ j. g i j) ⊕ g i (n - i)
-      inner i b = ap (λ m. sum o m (λ j. g i j)) (omega arith) ∙ sum-suc o (n - i) (λ j. g i j)
-
-      right : sum o (suc n) (λ i. sum o (suc n - i) (λ j. g i j)) ≡ sum o n (λ i. sum o (n - i) (λ j. g i j)) ⊕ sum o (suc n) (λ i. g i (n - i))
-      right = sum-cong o (suc n) _ _ inner ∙ sum-add (suc n) _ _ ∙ simp (sum-suc, N.sub-self, sum-zero, R.add-zero, s)
 
   module _ {X : Type 0} where
     pub total-zeros : (xs : List X) → total o xs (λ x. 𝟘) ≡ 𝟘
@@ -131,10 +117,6 @@ module _ {A : Type 0} {o : Ops A} (s : Semi o) where
     total-flatMap h (y ∷ ys) f = rw (total-append (h y) _ f, total-cons o y ys) (ap (λ x. total o (h y) f ⊕ x) (total-flatMap h ys f))
 
 module _ {A : Type 0} {o : Ops A} (l : Laws o) where
-  pub sum-neg : (n : ℕ) (f : ℕ → A) → sum o n (λ i. o .neg (f i)) ≡ o .neg (sum o n f)
-  sum-neg zero f = simp (sum-zero, R.neg-zero, l)
-  sum-neg (suc n) f = simp (sum-suc, sum-neg n f, R.neg-sum, l)
-
   pub total-neg : {X : Type 0} (xs : List X) (f : X → A) → total o xs (λ x. o .neg (f x)) ≡ o .neg (total o xs f)
   total-neg [] f = simp (total-nil, R.neg-zero, l)
   total-neg (x ∷ xs) f = simp (total-cons, total-neg xs f, R.neg-sum, l)

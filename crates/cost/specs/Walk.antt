@@ -9,12 +9,14 @@ use native.Mathlib.Omega.{arith}
 use lib.IntN.{ℤ, pos}
 use lib.ListN.{length, take, drop, getD, length-take, take-append-drop}
 use lib.Seq.{take-suc, take-all}
+use Rattle.limits.specs.Limits.{capacity}
 use Rattle.algebra.specs.Integer.{ℤ-eq}
-use Rattle.placements.specs.Multiplicity.{count, different, different-nil, count-append}
+use Rattle.placements.specs.Placements.{count, different}
 use Rattle.placements.specs.Places.{with-sum}
+use Rattle.placements.specs.Multiplicity.{different-nil, count-append}
 use Rattle.placements.specs.Merge.{different-new, different-old, different-length, with-sum-first}
 use Rattle.weights.specs.declared.Weights.{Weights}
-use Rattle.weights.specs.Lists.{capacity, listed}
+use Rattle.weights.specs.Lists.{listed}
 use Rattle.weights.specs.Rests.{Rest}
 use Rattle.definition.specs.Cost.{lists, most-lists}
 use Rattle.definition.specs.Merge.{lists-so-far, so-far-none, so-far-more, so-far-all, so-far-most, most-mono}

@@ -4,4 +4,4 @@ pub mod ListSteps
 pub mod ListWrites
 pub mod Signs
 pub mod SignedSteps
-pub mod SignedWrites
+pub mod Smalls

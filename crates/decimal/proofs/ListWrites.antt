@@ -1,73 +1,91 @@
--- A line written item by item, as the code does: what is left to write, over what was written, is the whole.
-use Prim.Native.Nat.{ℕ, _+_, _≤_, _<_}
+-- A line is written, and measured, item by item: item i with the separator behind it, and then the line of the items that follow. So
+-- what is left to write, over what was written, is the whole line, and what is left to add makes the whole length.
+use Prim.Native.Nat.{ℕ, _+_, _*_, _≤_, _<_}
 use mathlib.Core.Path.{_≡_, refl, sym, _∙_, ap}
 use mathlib.Core.List.{List, [], _∷_, _++_}
 use native.Mathlib.Omega.{arith}
 use native.Mathlib.Numerals.{add-one}
-use lib.ListN.{length, getD, drop, set, length-append, length-drop, length-set, drop-of-length-le}
+use lib.ListN.{length, getD, drop, length-append, length-drop, drop-of-length-le}
 use lib.Seq.{sets, drop-cons}
 use borrow.Author.Tests.{eq-eqb, ne-eqb}
 use Rattle.decimal.specs.Spelling.{after, line}
 use Rattle.decimal.specs.Written.{Wrote, separator-of}
 use Rattle.decimal.proofs.Writes.{sets-append}
 
-sep-zero : (i n : ℕ) → i ≡ n → separator-of i n ≡ 10
-unfolding separator-of
-sep-zero i n h = rw (eq-eqb i n h)
+-- x is item i
+pub record Item {A : Type 0} (xs : List A) (i : ℕ) (x : A) : Type 0 where
+  pub there : i < length xs
+  pub first : drop i xs ≡ x ∷ drop (i + 1) xs
 
-sep-other : (i n : ℕ) → i < n → separator-of i n ≡ 44
-unfolding separator-of
-sep-other i n h = rw (ne-eqb i n (λ e. omega arith))
+pub item-of : {A : Type 0} (xs : List A) (i : ℕ) (d : A) → i < length xs → Item xs i (getD xs i d)
+item-of xs i d h = record { there = h; first = rw add-one (drop-cons xs i d h) }
 
 module _ {A : Type 0} (spell : A → List ℕ) where
-  after-is : (ys : List A) (s : ℕ) → (length ys ≡ 0 → s ≡ 10) → (0 < length ys → s ≡ 44) → after spell ys ≡ s ∷ line spell ys
-  unfolding after line
-  after-is [] s z o = rw (z refl)
-  after-is (y ∷ ys) s z o = rw (o (omega arith))
+  after-is : (ys : List A) (i n : ℕ) → i + length ys ≡ n → after spell ys ≡ separator-of i n ∷ line spell ys
+  unfolding after line separator-of
+  after-is [] i n e = rw (eq-eqb i n (omega arith))
+  after-is (y ∷ ys) i n e = rw (ne-eqb i n (λ q. omega arith))
 
-  line-cons : (x : A) (ys : List A) → line spell (x ∷ ys) ≡ spell x ++ after spell ys
+  -- an item, what stands behind it, and the rest
+  line-at : {xs : List A} {i : ℕ} {x : A} → Item xs i x → line spell (drop i xs) ≡ spell x ++ (separator-of (i + 1) (length xs) ∷ line spell (drop (i + 1) xs))
   unfolding line
-  line-cons x ys = refl
+  line-at {xs} {i} {x} m =
+      ap (line spell) (m .first)
+      ∙ ap (λ (l : List ℕ). spell x ++ l) (after-is (drop (i + 1) xs) (i + 1) (length xs) (omega (arith, length-drop (i + 1) xs, m .there)))
 
-  module _ (xs : List A) (i : ℕ) (d : A) (h : i < length xs) where
-    -- item i, what stands behind it, and the rest
-    line-at : line spell (drop i xs) ≡ spell (getD xs i d) ++ (separator-of (i + 1) (length xs) ∷ line spell (drop (i + 1) xs))
-    line-at =
-        rw (drop-cons xs i d, ← add-one i) (line-cons (getD xs i d) (drop (i + 1) xs)
-        ∙ ap (λ (l : List ℕ). spell (getD xs i d) ++ l) (after-is (drop (i + 1) xs) (separator-of (i + 1) (length xs))
-        (λ z. sep-zero (i + 1) (length xs) (omega (arith, length-drop (i + 1) xs)))
-        (λ o. sep-other (i + 1) (length xs) (omega (arith, length-drop (i + 1) xs)))))
+  line-length : {xs : List A} {i : ℕ} {x : A} → Item xs i x → length (line spell (drop i xs)) ≡ length (spell x) + (1 + length (line spell (drop (i + 1) xs)))
+  line-length {xs} {i} {x} m = ap length (line-at m) ∙ length-append (spell x) _ ∙ omega arith
 
-    pub line-length : length (line spell (drop i xs)) ≡ length (spell (getD xs i d)) + (1 + length (line spell (drop (i + 1) xs)))
-    line-length = ap length line-at ∙ length-append (spell (getD xs i d)) (separator-of (i + 1) (length xs) ∷ line spell (drop (i + 1) xs)) ∙ omega arith
-
-  pub line-end : (xs : List A) (i : ℕ) → length xs ≤ i → line spell (drop i xs) ≡ []
+  line-end : (xs : List A) (i : ℕ) → length xs ≤ i → line spell (drop i xs) ≡ []
   unfolding line
   line-end xs i h = rw (drop-of-length-le xs h)
 
-  -- after i items: what is left to write, over what was written, is the whole
-  pub record Writing (xs : List A) (out₀ : List ℕ) (at : ℕ) (out : List ℕ) (p i : ℕ) : Type 0 where
-    pub items : i ≤ length xs
-    pub room : length out ≡ length out₀
-    pub place : p + length (line spell (drop i xs)) ≡ at + length (line spell xs)
-    pub text : sets out p (line spell (drop i xs)) ≡ sets out₀ at (line spell xs)
+-- ---- writing
+-- after i items
+pub record Writing {A : Type 0} (spell : A → List ℕ) (xs : List A) (out₀ : List ℕ) (at : ℕ) (out : List ℕ) (p i : ℕ) : Type 0 where
+  pub items : i ≤ length xs
+  pub room : length out ≡ length out₀
+  pub place : p + length (line spell (drop i xs)) ≡ at + length (line spell xs)
+  pub text : sets out p (line spell (drop i xs)) ≡ sets out₀ at (line spell xs)
 
-  pub writing-none : (xs : List A) (out : List ℕ) (at : ℕ) → Writing xs out at out at 0
-  writing-none xs out at = record { items = omega arith; room = refl; place = refl; text = refl }
+pub writing-none : {A : Type 0} (spell : A → List ℕ) (xs : List A) (out : List ℕ) (at : ℕ) → Writing spell xs out at out at 0
+writing-none spell xs out at = record { items = omega arith; room = refl; place = refl; text = refl }
 
-  module _ (xs : List A) (out₀ : List ℕ) (at : ℕ) (out : List ℕ) (p i : ℕ) (w : Writing xs out₀ at out p i) where
-    module _ (d : A) (h : i < length xs) where
-      pub writing-room : at + length (line spell xs) ≤ length out₀ → p + length (spell (getD xs i d)) < length out
-      writing-room r = omega (arith, w .room, w .place, line-length xs i d h)
+module _ {A : Type 0} {spell : A → List ℕ} {xs : List A} {out₀ : List ℕ} {at : ℕ} {out : List ℕ} {p i : ℕ} (w : Writing spell xs out₀ at out p i) where
+  module _ {x : A} (m : Item xs i x) where
+    -- the item and what stands behind it have room
+    pub writing-room : at + length (line spell xs) ≤ length out₀ → p + length (spell x) < length out
+    writing-room r = omega (arith, w .room, w .place, line-length spell m)
 
-      pub writing-more : (out₁ : List ℕ) (p₁ s : ℕ) → Wrote (spell (getD xs i d)) out p out₁ p₁ → length out₁ ≡ length out → s ≡ separator-of (i + 1) (length xs) →
-          Writing xs out₀ at (set out₁ p₁ s) (p₁ + 1) (i + 1)
-      writing-more out₁ p₁ s f k e = record {
-        items = omega arith;
-        room = length-set out₁ p₁ s ∙ k ∙ w .room;
-        place = omega (arith, w .place, f .place, line-length xs i d h);
-        text = sym (rw (f .text, e, add-one p₁, f .place) (sym (w .text) ∙ ap (sets out p) (line-at xs i d h) ∙ sets-append out p (spell (getD xs i d)) _));
-      }
+    pub writing-more : {out₁ out₂ : List ℕ} {p₁ p₂ s : ℕ} → Wrote (spell x) out p out₁ p₁ → length out₁ ≡ length out → s ≡ separator-of (i + 1) (length xs) →
+        Wrote (s ∷ []) out₁ p₁ out₂ p₂ → length out₂ ≡ length out₁ → Writing spell xs out₀ at out₂ p₂ (i + 1)
+    writing-more {p₁ = p₁} f k e g l = record {
+      items = omega (arith, m .there);
+      room = l ∙ k ∙ w .room;
+      place = omega (arith, w .place, f .place, g .place, line-length spell m);
+      text = sym (rw (g .text, g .place, f .text, e, add-one p₁, f .place) (sym (w .text) ∙ ap (sets out p) (line-at spell m) ∙ sets-append out p (spell x) _));
+    }
 
-    pub writing-end : length xs ≤ i → Wrote (line spell xs) out₀ at out p
-    writing-end h = record { text = rw (line-end xs i h) at (w .text); place = omega (arith, w .place, ap length (line-end xs i h)) }
+  pub writing-end : length xs ≤ i → Wrote (line spell xs) out₀ at out p
+  writing-end h = record { text = rw (line-end spell xs i h) at (w .text); place = omega (arith, w .place, ap length (line-end spell xs i h)) }
+
+-- ---- measuring
+-- n bytes for the first i items, each of which has at most `most` with its separator
+pub record Measured {A : Type 0} (spell : A → List ℕ) (most : ℕ) (xs : List A) (n i : ℕ) : Type 0 where
+  pub items : i ≤ length xs
+  pub sum : n + length (line spell (drop i xs)) ≡ length (line spell xs)
+  pub bound : n ≤ i * most
+
+pub measured-none : {A : Type 0} (spell : A → List ℕ) (most : ℕ) (xs : List A) → Measured spell most xs 0 0
+measured-none spell most xs = record { items = omega arith; sum = omega arith; bound = omega arith }
+
+module _ {A : Type 0} {spell : A → List ℕ} {most : ℕ} {xs : List A} {n i : ℕ} (w : Measured spell most xs n i) where
+  pub measured-more : {x : A} {k : ℕ} → Item xs i x → k ≡ length (spell x) → k < most → Measured spell most xs (n + (k + 1)) (i + 1)
+  measured-more m e l = record {
+    items = omega (arith, m .there);
+    sum = omega (arith, w .sum, line-length spell m);
+    bound = omega (arith, w .bound);
+  }
+
+  pub measured-end : length xs ≤ i → n ≡ length (line spell xs)
+  measured-end h = omega (arith, w .sum, ap length (line-end spell xs i h))

@@ -1,16 +1,16 @@
--- What is read is what is written: the scanner reads `decimal n` as n, and reads nothing else.
-use Prim.Native.Nat.{ℕ, zero, suc, _+_, _-_, _*_, _/_, _%_, _≤_, _<_}
+-- The scanner reads `decimal n` as n, and reads nothing else: both go from the front digit on, and a number with one digit more is ten
+-- times the number and the digit. A zero is followed by no digit, so no number has two spellings.
+use Prim.Native.Nat.{ℕ, zero, suc, _+_, _*_, _/_, _%_, _≤_, _<_}
 use mathlib.Core.Path.{_≡_, refl, sym, _∙_, ap}
 use mathlib.Core.List.{List, [], _∷_, _++_, append-assoc}
 use native.Mathlib.Omega.{arith}
 use native.Mathlib.Decide.{decLt}
-use lib.ListN.{length, getD, drop, length-append}
-use lib.Seq.{drop-append-seam}
-use borrow.Author.Tests.{lt-ltb, le-ltb, eq-eqb, ne-eqb}
-use Rattle.decimal.specs.declared.Cursor.{Cursor}
-use Rattle.decimal.specs.declared.Number.the-variants.{Bad, Value}
-use Rattle.decimal.specs.Spelling.{decimal, digits}
-use Rattle.decimal.specs.Scan.{digit-of, more-digits, read-number, value}
+use lib.Dec.{eqb, ltb}
+use lib.ListN.{length, getD, length-append}
+use borrow.Author.Tests.{ltb-false, lt-ltb, le-ltb, eqb-false, ne-eqb}
+use Rattle.decimal.specs.Spelling.{Word, decimal, digits, largest-word}
+use Rattle.decimal.specs.Scan.{digit-of, got, more-digits, number}
+use Rattle.decimal.specs.Scans.{Begins, Ends, Scans, got-as, never-got, spared-got}
 
 -- ---- the spelling: the fuel does not matter, and a number is its front digits with one behind them
 digits-fuel : (f g n : ℕ) → n < f → n < g → digits f n ≡ digits g n
@@ -61,78 +61,47 @@ digit-spelt b h = elim (decLt b 48) [
   ]
 ]
 
--- ---- what is written is read
--- a text at whose front no digit stands: the empty one too
-abbrev pub Ends : List ℕ → Type 0
-Ends t = 9 < digit-of (getD t 0 0)
-
-more-ends : (t : List ℕ) (v i : ℕ) → Ends t → more-digits t v i ≡ value v i
+-- ---- what is spelt is read
+more-ends : (t : List ℕ) (v i : ℕ) → Ends t → more-digits t v i ≡ got v i
 more-ends [] v i h = refl
 more-ends (b ∷ t) v i h = simp (lt-ltb _ _ h)
 
-more-digit : (t : List ℕ) (v d i : ℕ) → 0 < v → d < 10 → v * 10 + d ≤ 4294967295 → more-digits ((48 + d) ∷ t) v i ≡ more-digits t (v * 10 + d) (i + 1)
+more-digit : (t : List ℕ) (v d i : ℕ) → 0 < v → d < 10 → Word (v * 10 + d) → more-digits ((48 + d) ∷ t) v i ≡ more-digits t (v * 10 + d) (i + 1)
 more-digit t v d i p q h = simp (digit-of-digit d q, le-ltb 9 d (omega arith), ne-eqb v 0 (λ e. omega arith), le-ltb _ _ h)
 
-reads-on : (n : ℕ) → n ≤ 4294967295 → (t : List ℕ) → read-number (decimal n ++ t) ≡ more-digits t n (length (decimal n))
-reads-on = by-digits (λ (n : ℕ). n ≤ 4294967295 → (t : List ℕ) → read-number (decimal n ++ t) ≡ more-digits t n (length (decimal n)))
+reads-on : (n : ℕ) → Word n → (t : List ℕ) → number (decimal n ++ t) ≡ more-digits t n (length (decimal n))
+reads-on = by-digits (λ (n : ℕ). Word n → (t : List ℕ) → number (decimal n ++ t) ≡ more-digits t n (length (decimal n)))
     (λ n p m t. rw (decimal-small n p) (simp (digit-of-digit n p, le-ltb 9 n (omega arith))))
     (λ v d p q r m t. rw (decimal-more v d p q, append-assoc, length-append) (r (omega arith) ((48 + d) ∷ t) ∙ more-digit t v d _ p q m))
 
-pub reads : (n : ℕ) (t : List ℕ) → n ≤ 4294967295 → Ends t → read-number (decimal n ++ t) ≡ value n (length (decimal n))
-reads n t m h = reads-on n m t ∙ more-ends t n _ h
+-- ---- what is read was spelt
+-- v was read, and s stands behind it
+read-whole : (t s : List ℕ) {v i n j : ℕ} → Word v → i ≡ length (decimal v) → t ≡ decimal v ++ s → got v i ≡ got n j → Begins (decimal n) t j × Word n
+read-whole t s m l e h = got-as (λ n j. Begins (decimal n) t j × Word n) h (record { behind = s; whole = e; place = l }, m)
 
--- ---- what is read was written
-pub record Spelt (t : List ℕ) (n i : ℕ) : Type 0 where
-  pub front : t ≡ decimal n ++ drop i t
-  pub place : i ≡ length (decimal n)
-  pub ends : Ends (drop i t)
-  pub small : n ≤ 4294967295
-
-spelt-here : (t s : List ℕ) (v i : ℕ) → v ≤ 4294967295 → i ≡ length (decimal v) → t ≡ decimal v ++ s → Ends s → Spelt t v i
-spelt-here t s v i m l e h =
-    let r : drop i t ≡ s = rw (e, l) (drop-append-seam (decimal v) s) in
-    record { front = rw r e; place = l; ends = rw r h; small = m }
-
-spelt-at : (t : List ℕ) (v i n : ℕ) (c : Cursor) → Spelt t v i → value v i ≡ Value n c → Spelt t n (c .at)
-spelt-at t v i n c s h =
-    let k : record { at = i } ≡ c = cc in
-    let a : i ≡ c .at = ap (λ (x : Cursor). x .at) k in
-    let b : v ≡ n = cc in
-    rw (← a, ← b) s
-
-pub ends-nil : Ends []
-unfolding digit-of
-ends-nil = omega arith
-
-pub never : {n : ℕ} {c : Cursor} → Bad ≡ Value n c → ⊥
-never h = let z : _≡_ {A = ℕ} 0 1 = cc in omega arith
-
-more-spelt : (s t : List ℕ) (v i n : ℕ) (c : Cursor) → v ≤ 4294967295 → i ≡ length (decimal v) → t ≡ decimal v ++ s → more-digits s v i ≡ Value n c → Spelt t n (c .at)
-more-spelt [] t v i n c m l e h = spelt-at t v i n c (spelt-here t [] v i m l e ends-nil) h
-more-spelt (b ∷ s) t v i n c m l e h = elim (decLt 9 (digit-of b)) [
-  | yes p ↦ spelt-at t v i n c (spelt-here t (b ∷ s) v i m l e p) (simp (lt-ltb _ _ p) at h)
-  | no p ↦ let p′ : digit-of b ≤ 9 = omega arith in elim (decLt 0 v) [
-    | no q ↦ absurd (never (simp (le-ltb _ _ p′, eq-eqb v 0 (omega arith)) at h))
-    | yes q ↦ elim (decLt 4294967295 (v * 10 + digit-of b)) [
-      | yes r ↦ absurd (never (simp (le-ltb _ _ p′, ne-eqb v 0 (λ e. omega arith), lt-ltb _ _ r) at h))
-      | no r ↦
-          let r′ : v * 10 + digit-of b ≤ 4294967295 = omega arith in
-          let k : decimal (v * 10 + digit-of b) ≡ decimal v ++ (b ∷ []) = decimal-more v (digit-of b) q (omega arith) ∙ rw (digit-spelt b p′) in
-          more-spelt s t (v * 10 + digit-of b) (i + 1) n c r′ (rw (k, length-append, l)) (rw (k, append-assoc) e)
-          (simp (le-ltb _ _ p′, ne-eqb v 0 (λ e. omega arith), le-ltb _ _ r′) at h)
-    ]
-  ]
-]
-
-pub spelt : (t : List ℕ) (n : ℕ) (c : Cursor) → read-number t ≡ Value n c → Spelt t n (c .at)
-spelt [] n c h = absurd (never h)
-spelt (b ∷ t) n c h = elim (decLt 9 (digit-of b)) [
-  | yes p ↦ absurd (never (simp (lt-ltb _ _ p) at h))
+more-sound : (s t : List ℕ) (v i n j : ℕ) → Word v → i ≡ length (decimal v) → t ≡ decimal v ++ s → more-digits s v i ≡ got n j → Begins (decimal n) t j × Word n
+more-sound [] t v i n j m l e h = read-whole t [] m l e h
+more-sound (b ∷ s) t v i n j m l e h = elim (decLt 9 (digit-of b)) [
+  | yes p ↦ read-whole t (b ∷ s) m l e (simp (lt-ltb _ _ p) at h)
   | no p ↦
       let p′ : digit-of b ≤ 9 = omega arith in
-      let k : decimal (digit-of b) ≡ b ∷ [] = decimal-small (digit-of b) (omega arith) ∙ rw (digit-spelt b p′) in
-      more-spelt t (b ∷ t) (digit-of b) 1 n c (omega arith) (rw k) (rw k) (simp (le-ltb _ _ p′) at h)
+      let (q, g) = spared-got (eqb v 0) (rw (le-ltb _ _ p′) at h) in
+      let (r, g₁) = spared-got (ltb largest-word (v * 10 + digit-of b)) g in
+      let k : decimal (v * 10 + digit-of b) ≡ decimal v ++ (b ∷ []) =
+      decimal-more v (digit-of b) (omega (arith, eqb-false v 0 q)) (omega arith) ∙ rw (digit-spelt b p′) in
+      more-sound s t (v * 10 + digit-of b) (i + 1) n j (ltb-false _ _ r) (rw (k, length-append, l)) (rw (k, append-assoc) e) g₁
 ]
+
+number-sound : (t : List ℕ) (n j : ℕ) → number t ≡ got n j → Begins (decimal n) t j × Word n
+number-sound [] n j h = absurd (never-got h)
+number-sound (b ∷ t) n j h =
+    let (p, g) = spared-got (ltb 9 (digit-of b)) h in
+    let q : digit-of b ≤ 9 = ltb-false _ _ p in
+    let k : decimal (digit-of b) ≡ b ∷ [] = decimal-small (digit-of b) (omega arith) ∙ rw (digit-spelt b q) in
+    more-sound t (b ∷ t) (digit-of b) 1 n j (omega arith) (rw k) (rw k) g
+
+pub numbers : Scans Word decimal number
+numbers = record { complete = λ n t m h. reads-on n m t ∙ more-ends t n _ h; sound = number-sound }
 
 -- ---- the spelling from its front
 pub decimal-split : (v : ℕ) → 10 ≤ v → decimal v ≡ decimal (v / 10) ++ ((48 + v % 10) ∷ [])
@@ -146,11 +115,20 @@ length-more v h = rw (decimal-split v h, length-append)
 pub length-small : (v : ℕ) → v < 10 → length (decimal v) ≡ 1
 length-small v h = rw (decimal-small v h)
 
--- ---- the place behind a number is in the text
-pub place-within : (t : List ℕ) (n : ℕ) (c : Cursor) → read-number t ≡ Value n c → c .at ≤ length t
-place-within t n c h =
-    let s : Spelt t n (c .at) = spelt t n c h in
-    omega (arith, s .place, ap length (s .front), length-append (decimal n) (drop (c .at) t))
+-- ---- how long it is
+abbrev tens : ℕ → ℕ
+tens zero = 1
+tens (suc k) = 10 * tens k
+
+pub digits-at-most : (k n : ℕ) → n < tens (suc k) → length (decimal n) ≤ suc k
+digits-at-most zero n h = rw (length-small n (omega arith)) (omega arith)
+digits-at-most (suc k) n h = elim (decLt n 10) [
+  | yes l ↦ rw (length-small n l) (omega arith)
+  | no l ↦ let i : length (decimal (n / 10)) ≤ suc k = digits-at-most k (n / 10) (omega arith) in omega (arith, length-more n (omega arith))
+]
+
+pub word-length : (n : ℕ) → Word n → length (decimal n) ≤ 10
+word-length n h = digits-at-most 9 n (omega arith)
 
 -- ---- a number starts with a digit
 pub decimal-starts : (n : ℕ) (t : List ℕ) (b : ℕ) → 9 < digit-of b → getD (decimal n ++ t) 0 0 ≡ b → ⊥

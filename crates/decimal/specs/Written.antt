@@ -7,6 +7,7 @@ use lib.Dec.{eqb, leb}
 use lib.IntN.{ℤ, pos, negsuc, natAbs}
 use lib.ListN.{length}
 use lib.Seq.{sets}
+use Rattle.limits.specs.Limits.{largest-written}
 
 -- s over the bytes of out from at on, and the place behind it
 pub record Wrote (s out : List ℕ) (at : ℕ) (out′ : List ℕ) (behind : ℕ) : Type 0 where
@@ -23,4 +24,4 @@ negative (negsuc n) = true
 
 abbrev pub all-small : List ℤ → Bool
 all-small [] = true
-all-small (z ∷ zs) = cond (leb (natAbs z) 999) (all-small zs) false
+all-small (z ∷ zs) = cond (leb (natAbs z) largest-written) (all-small zs) false

@@ -1,13 +1,22 @@
 // Numbers in decimal, one by one and in lists: each has one spelling, which is read and written.
 ghost use mathlib.Core.Path.{_≡_};
 ghost use Prim.Native.Nat.{_+_, _*_, _≤_};
+ghost use mathlib.Core.List.{[], _∷_};
 ghost use lib.Dec.{leb};
 ghost use lib.IntN.{pos, negℤ, natAbs};
 ghost use lib.ListN.{length, getD};
+ghost use Rattle.limits.specs.Limits.{most-placements, largest-written};
 ghost use Rattle.decimal.specs.Spelling.{decimal, signed, line, Small, Each};
-ghost use Rattle.decimal.specs.Scan.{digit-of, read-number, number, signed-number, read-list, as-signed, Filled};
+ghost use Rattle.decimal.specs.Scan.{digit-of, number, number-of, signed-number, signed-of, read-list, ListRead};
 ghost use Rattle.decimal.specs.Written.{negative, all-small, separator-of, Wrote};
 
+// The least number that may have a sign.
+const LEAST_WRITTEN: i32 = -limits::LARGEST_WRITTEN;
+
+// The largest such number without its sign.
+const LARGEST_SIZE: u32 = limits::LARGEST_WRITTEN as u32;
+
+// A place in a text.
 pub struct Cursor {
     pub at: usize,
 }
@@ -55,7 +64,7 @@ fn digit(b: u8) -> u64
 
 // The number at the front of the part. It ends where no digit follows.
 pub fn read_u32(part: &[u8]) -> Number
-    ensures { λ r. ⌜ r ≡ read-number (now (part .entry)) ⌝ }
+    ensures { λ r. ⌜ number-of r ≡ number (now (part .entry)) ⌝ }
 {
     if part.len() == 0 {
         return Number::Bad;
@@ -83,14 +92,23 @@ pub fn read_u32(part: &[u8]) -> Number
     Number::Value(v as u32, Cursor { at: i })
 }
 
-// How many digits v has. The bound is coarse: it is there to rule out that sums of widths wrap.
+// How many digits v has. The bound rules out that sums of widths wrap.
 pub fn width(v: u32) -> usize
-    ensures { λ r. ⌜ (r ≡ length (decimal v)) × (r ≤ v + 1) ⌝ }
+    ensures { λ r. ⌜ (r ≡ length (decimal v)) × (r ≤ 10) ⌝ }
 {
     if v < 10 {
         return 1;
     }
     width(v / 10) + 1
+}
+
+// Writes the byte at the place, and answers the place behind it, as each writer here does.
+pub fn write_byte(out: &mut [u8], at: usize, b: u8) -> usize
+    requires { ⌜ at + 1 ≤ length (now out) ⌝ }
+    ensures { λ r. ⌜ Wrote (b ∷ []) (now (out .entry)) at (now (out .exit)) r ⌝ }
+{
+    out[at] = b;
+    at + 1
 }
 
 // Writes v at the place, and answers the place behind it.
@@ -99,23 +117,21 @@ pub fn write_u32(out: &mut [u8], at: usize, v: u32) -> usize
     ensures { λ r. ⌜ Wrote (decimal v) (now (out .entry)) at (now (out .exit)) r ⌝ }
 {
     if v < 10 {
-        out[at] = 48 + v as u8;
-        return at + 1;
+        return write_byte(out, at, 48 + v as u8);
     }
     let p = write_u32(out, at, v / 10);
-    out[p] = 48 + (v % 10) as u8;
-    p + 1
+    write_byte(out, p, 48 + (v % 10) as u8)
 }
 
 fn plus(v: u32) -> i32
-    requires { ⌜ v ≤ 999 ⌝ }
+    requires { ⌜ v ≤ largest-written ⌝ }
     ensures { λ r. ⌜ r ≡ pos v ⌝ }
 {
     v as i32
 }
 
 fn minus(v: u32) -> i32
-    requires { ⌜ v ≤ 999 ⌝ }
+    requires { ⌜ v ≤ largest-written ⌝ }
     ensures { λ r. ⌜ r ≡ negℤ (pos v) ⌝ }
 {
     0 - (v as i32)
@@ -123,7 +139,7 @@ fn minus(v: u32) -> i32
 
 // The number from -999 to 999 at the front of the part.
 pub fn read_signed(part: &[u8]) -> Signed
-    ensures { λ r. ⌜ r ≡ as-signed (signed-number (now (part .entry))) ⌝ }
+    ensures { λ r. ⌜ signed-of r ≡ signed-number (now (part .entry)) ⌝ }
 {
     if byte_at(part, 0) == 45 {
         let Number::Value(n, c) = read_u32(&part[1..]) else {
@@ -132,7 +148,7 @@ pub fn read_signed(part: &[u8]) -> Signed
         if n == 0 {
             return Signed::None;
         }
-        if 999 < n {
+        if LARGEST_SIZE < n {
             return Signed::None;
         }
         let at = c.at;
@@ -141,7 +157,7 @@ pub fn read_signed(part: &[u8]) -> Signed
     let Number::Value(v, c) = read_u32(part) else {
         return Signed::None;
     };
-    if 999 < v {
+    if LARGEST_SIZE < v {
         return Signed::None;
     }
     Signed::Of(plus(v), c)
@@ -149,12 +165,12 @@ pub fn read_signed(part: &[u8]) -> Signed
 
 // Whether z is from -999 to 999.
 fn small(z: i32) -> bool
-    ensures { λ r. ⌜ r ≡ leb (natAbs z) 999 ⌝ }
+    ensures { λ r. ⌜ r ≡ leb (natAbs z) largest-written ⌝ }
 {
-    if z < -999 {
+    if z < LEAST_WRITTEN {
         return false;
     }
-    if 999 < z {
+    if limits::LARGEST_WRITTEN < z {
         return false;
     }
     true
@@ -181,7 +197,7 @@ fn size(z: i32) -> u32
 // How many bytes z has, with its sign.
 pub fn signed_width(z: i32) -> usize
     requires { ⌜ Small z ⌝ }
-    ensures { λ r. ⌜ (r ≡ length (signed z)) × (r ≤ 1001) ⌝ }
+    ensures { λ r. ⌜ (r ≡ length (signed z)) × (r ≤ 11) ⌝ }
 {
     let n = width(size(z));
     if below_zero(z) {
@@ -197,8 +213,8 @@ pub fn write_signed(out: &mut [u8], at: usize, z: i32) -> usize
 {
     let v = size(z);
     if below_zero(z) {
-        out[at] = 45;
-        return write_u32(out, at + 1, v);
+        let p = write_byte(out, at, 45);
+        return write_u32(out, p, v);
     }
     write_u32(out, at, v)
 }
@@ -220,7 +236,7 @@ pub fn each_small(zs: &[i32]) -> bool
 
 // Reads the line of numbers at the front of the part into the front of out, which holds as many as may come.
 pub fn read_numbers(part: &[u8], out: &mut [u32]) -> Listed
-    ensures { λ r. ⌜ Filled (read-list number (length (now (out .entry))) (now (part .entry))) r (now (out .exit)) ⌝ }
+    ensures { λ r. ⌜ ListRead (read-list number (length (now (out .entry))) (now (part .entry))) r (now (out .exit)) ⌝ }
 {
     let mut n: usize = 0;
     let mut at: usize = 0;
@@ -246,7 +262,7 @@ pub fn read_numbers(part: &[u8], out: &mut [u32]) -> Listed
 
 // The same for numbers from -999 to 999.
 pub fn read_signeds(part: &[u8], out: &mut [i32]) -> Listed
-    ensures { λ r. ⌜ Filled (read-list signed-number (length (now (out .entry))) (now (part .entry))) r (now (out .exit)) ⌝ }
+    ensures { λ r. ⌜ ListRead (read-list signed-number (length (now (out .entry))) (now (part .entry))) r (now (out .exit)) ⌝ }
 {
     let mut n: usize = 0;
     let mut at: usize = 0;
@@ -282,8 +298,8 @@ fn separator(i: usize, n: usize) -> u8
 
 // How many bytes the line of the numbers has.
 pub fn numbers_width(xs: &[u32]) -> usize
-    requires { ⌜ length (now xs) ≤ 1024 ⌝ }
-    ensures { λ r. ⌜ (r ≡ length (line decimal (now (xs .entry)))) × (r ≤ 1024 * 4294967298) ⌝ }
+    requires { ⌜ length (now xs) ≤ most-placements ⌝ }
+    ensures { λ r. ⌜ (r ≡ length (line decimal (now (xs .entry)))) × (r ≤ most-placements * 11) ⌝ }
 {
     let mut n: usize = 0;
     let mut i: usize = 0;
@@ -296,8 +312,8 @@ pub fn numbers_width(xs: &[u32]) -> usize
 
 // The same for numbers from -999 to 999.
 pub fn signeds_width(zs: &[i32]) -> usize
-    requires { ⌜ (length (now zs) ≤ 1024) × Each Small (now zs) ⌝ }
-    ensures { λ r. ⌜ (r ≡ length (line signed (now (zs .entry)))) × (r ≤ 1024 * 1002) ⌝ }
+    requires { ⌜ (length (now zs) ≤ most-placements) × Each Small (now zs) ⌝ }
+    ensures { λ r. ⌜ (r ≡ length (line signed (now (zs .entry)))) × (r ≤ most-placements * 12) ⌝ }
 {
     let mut n: usize = 0;
     let mut i: usize = 0;
@@ -318,8 +334,7 @@ pub fn write_numbers(out: &mut [u8], at: usize, xs: &[u32]) -> usize
     while i < xs.len() {
         p = write_u32(out, p, xs[i]);
         i += 1;
-        out[p] = separator(i, xs.len());
-        p += 1;
+        p = write_byte(out, p, separator(i, xs.len()));
     }
     p
 }
@@ -334,8 +349,7 @@ pub fn write_signeds(out: &mut [u8], at: usize, zs: &[i32]) -> usize
     while i < zs.len() {
         p = write_signed(out, p, zs[i]);
         i += 1;
-        out[p] = separator(i, zs.len());
-        p += 1;
+        p = write_byte(out, p, separator(i, zs.len()));
     }
     p
 }

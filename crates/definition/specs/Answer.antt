@@ -1,8 +1,9 @@
--- The resolvent worked out: rules 1 to 4 as a computation, given inverses of what they divide by. So modulo a prime above N
--- there is an answer, and it is the only one.
+-- The resolvent worked out: rules 1 to 4 as a computation, given inverses of what they divide by. Each rule tells its numbers one
+-- after the other, so a list of them grows by one at a time and what stands in it stays. Modulo a prime above N, and above the
+-- number of weights, the inverses are there: there is an answer, and it is the only one.
 use mathlib.Core.Path.{_≡_, refl, sym, ap, _∙_}
 use mathlib.Core.List.{List, [], _∷_, _++_, map}
-use Prim.Native.Nat.{ℕ, zero, suc, _+_, _-_, _≤_, _<_}
+use Prim.Native.Nat.{ℕ, zero, suc, _≤_, _<_}
 use native.Mathlib.Decide.{decLt}
 use native.Mathlib.Omega.{arith}
 use lib.ListN.{length, length-map, length-append, getD, List·getD-append}
@@ -15,10 +16,9 @@ use Rattle.algebra.specs.Integer.{ℤ-eq}
 use Rattle.residues.specs.Prime.{Prime, prime-positive}
 use Rattle.residues.specs.Residues.{residues, Words, Z, reduce, ring, laws, word-hom, words-back, words-below}
 use Rattle.residues.specs.Field.{inverse, nat-inverse, below-apart}
-use Rattle.placements.specs.Multiplicity.{factorials}
-use Rattle.placements.specs.Number.{placed}
-use Rattle.definition.specs.Definition.{nth, sum₁, newton, Rule₁, Resolvent}
-use Rattle.definition.specs.Rules.{T, T-meets, nth-suc, sum₁-cong}
+use Rattle.placements.specs.Placements.{factorials, placed}
+use Rattle.definition.specs.Definition.{nth, newton, newton-back, Rule₁, Resolvent}
+use Rattle.definition.specs.Rules.{nth-suc, newton-cong, newton-back-cong, T, T-meets}
 use Rattle.definition.specs.Carry.{carry}
 use Rattle.definition.specs.Roots.{two-cases}
 use Rattle.definition.specs.Words.{factorials-apart, one-list-of-words}
@@ -49,15 +49,13 @@ module _ {A : Type 0} (h : List A → A) where
   grow-more n m d i a b = getD-grow n d i a ∙ sym (getD-grow m d i (omega arith))
 
 module _ {A : Type 0} (o : Ops A) where
-  open Ops o using (zero as 𝟘, one as 𝟙, add as _⊕_, mul as _⊗_, neg as ⊖_)
+  open Ops o using (zero as 𝟘, mul as _⊗_)
 
-  infixl 60 _⊕_
   infixl 70 _⊗_
-  infix 80 ⊖_
   -- rule 1: the k-th power sum, from those before it
   unfoldable pub next-sum : List A → ℕ → List A → A
   next-sum c zero before = nat o (length c)
-  next-sum c (suc j) before = ⊖ (nat o (suc j) ⊗ nth o c (suc j) ⊕ sum₁ o j (λ i. nth o c i ⊗ getD before (suc j - i) 𝟘))
+  next-sum c (suc j) before = newton o c (λ i. getD before i 𝟘) (suc j)
 
   unfoldable pub sums : List A → ℕ → List A
   sums c m = grow (λ before. next-sum c (length before) before) (suc m)
@@ -68,7 +66,7 @@ module _ {A : Type 0} (o : Ops A) where
 
   -- rule 4: the k-th coefficient, from those before it
   unfoldable pub next-coefficient : (inv S : ℕ → A) → ℕ → List A → A
-  next-coefficient inv S k before = inv k ⊗ ⊖ (S k ⊕ sum₁ o (k - 1) (λ i. nth o before i ⊗ S (k - i)))
+  next-coefficient inv S k before = inv k ⊗ newton-back o before S k
 
   unfoldable pub coefficients : (inv S : ℕ → A) → ℕ → List A
   coefficients inv S m = grow (λ before. next-coefficient inv S (suc (length before)) before) m
@@ -77,11 +75,9 @@ module _ {A : Type 0} (o : Ops A) where
   answer inv c L = coefficients inv (divided inv (sums c (placed (length c) L)) L) (placed (length c) L)
 
 module _ {A : Type 0} {o : Ops A} (l : Laws o) where
-  open Ops o using (zero as 𝟘, one as 𝟙, add as _⊕_, mul as _⊗_, neg as ⊖_)
+  open Ops o using (zero as 𝟘, one as 𝟙, mul as _⊗_)
 
-  infixl 60 _⊕_
   infixl 70 _⊗_
-  infix 80 ⊖_
   sums-right : (c : List A) (m : ℕ) → Rule₁ o c m (λ k. getD (sums o c m) k 𝟘)
   unfolding sums next-sum
   sums-right c m = two-cases l c m _ (at 0 (omega arith)) each
@@ -94,20 +90,16 @@ module _ {A : Type 0} {o : Ops A} (l : Laws o) where
 
       each : (k : ℕ) → 1 ≤ k → k ≤ m → getD (grow h (suc m)) k 𝟘 ≡ newton o c (λ i. getD (grow h (suc m)) i 𝟘) k
       each zero a d = absurd (omega arith)
-      each (suc j) a d =
-          at (suc j) d
-          ∙ ap (λ x. ⊖ (nat o (suc j) ⊗ nth o c (suc j) ⊕ x))
-          (sum₁-cong o j _ _ (λ i u w. ap (λ x. nth o c i ⊗ x) (grow-more h (suc j) (suc m) 𝟘 (suc j - i) (omega arith) (omega arith)))
-          ∙ ap (λ n. sum₁ o n (λ i. nth o c i ⊗ getD (grow h (suc m)) (suc j - i) 𝟘)) (omega arith))
+      each (suc j) a d = at (suc j) d ∙ newton-cong o c (suc j) (λ i b. grow-more h (suc j) (suc m) 𝟘 i b (omega arith))
 
   coefficients-right : (inv S : ℕ → A) (m k : ℕ) → nat o k ⊗ inv k ≡ 𝟙 → 1 ≤ k → k ≤ m
-      → nat o k ⊗ nth o (coefficients o inv S m) k ≡ ⊖ (S k ⊕ sum₁ o (k - 1) (λ i. nth o (coefficients o inv S m) i ⊗ S (k - i)))
+      → nat o k ⊗ nth o (coefficients o inv S m) k ≡ newton-back o (coefficients o inv S m) S k
   unfolding coefficients next-coefficient
   coefficients-right inv S m zero e a b = absurd (omega arith)
   coefficients-right inv S m (suc j) e a b =
       ap (λ x. nat o (suc j) ⊗ x) (nth-suc o _ j ∙ getD-grow h m 𝟘 j (omega arith) ∙ ap (λ n. next-coefficient o inv S (suc n) (grow h j)) (length-grow h j))
       ∙ R.undo (l .semi) _ _ _ e
-      ∙ ap (λ x. ⊖ (S (suc j) ⊕ x)) (sum₁-cong o (suc j - 1) _ _ (λ i u w. ap (λ x. x ⊗ S (suc j - i)) (same i u (omega arith))))
+      ∙ newton-back-cong o _ _ {S = S} {S' = S} (suc j) (λ i u w. same i u (omega arith)) (λ i w. refl)
     where
       h : List A → A
       h before = next-coefficient o inv S (suc (length before)) before
@@ -134,7 +126,7 @@ module _ {A : Type 0} {o : Ops A} (l : Laws o) where
 unfoldable pub resolvent : ℕ → List ℕ → List ℤ → List ℕ
 resolvent p c L = map (λ (z : Z p). z .word) (answer (ring p) (inverse p) (map (reduce p) c) L)
 
--- Modulo a prime p above N, with fewer than p weights: this list is a resolvent of c and L, its words are below p, and any other is the same
+-- modulo a prime p above N, with fewer than p weights: this list is a resolvent of c and L, its words are below p, and any other is the same
 module _ {p : ℕ} (h : Prime p) (c : List ℕ) (low : Words p c) (L : List ℤ) (few : length L < p) (small : placed (length c) L < p) where
   pub resolvent-right : Resolvent (residues p) c L (resolvent p c L)
   unfolding resolvent

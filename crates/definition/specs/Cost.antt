@@ -3,17 +3,17 @@
 -- at most that, stands in `Merge`.
 use mathlib.Core.Path.{_≡_}
 use mathlib.Core.List.{List, [], _∷_}
-use Prim.Native.Nat.{ℕ, zero, suc, _+_, _*_, _-_, _<_}
+use Prim.Native.Nat.{ℕ, zero, suc, _+_, _*_, _<_}
 use lib.ListN.{length}
 use lib.IntN.{ℤ, _+ℤ_}
 use Rattle.algebra.specs.Ring.{Ops}
-use Rattle.algebra.specs.Power.{pow, nat, int}
-use Rattle.algebra.specs.Sum.{sum, total}
-use Rattle.algebra.specs.Binomial.{choose}
+use Rattle.algebra.specs.Power.{nat}
+use Rattle.algebra.specs.Sum.{total}
 use Rattle.algebra.specs.Natural.{naturals}
 use Rattle.algebra.specs.Integer.{ℤ-eq}
-use Rattle.placements.specs.Multiplicity.{count, different}
-use Rattle.placements.specs.Merge.{replaced}
+use Rattle.placements.specs.Placements.{count, different}
+use Rattle.placements.specs.Places.{replaced}
+use Rattle.definition.specs.Definition.{spread}
 
 -- M with its first d replaced by d + e
 abbrev pub met : ℤ → List ℤ → ℤ → List ℤ
@@ -33,8 +33,7 @@ module _ {A : Type 0} (o : Ops A) where
   pub record MergedRule₂ (s : ℕ → A) (T : List ℤ → ℕ → A) : Type 0 where
     pub empty : T [] 0 ≡ 𝟙
     pub empty-later : (k : ℕ) → 0 < k → T [] k ≡ 𝟘
-    pub longer : (e : ℤ) (M : List ℤ) (k : ℕ)
-        → T (e ∷ M) k ≡ sum o (suc k) (λ i. nat o (choose k i) ⊗ (pow o (int o e) i ⊗ s i ⊗ T M (k - i))) ⊕ ⊖ merged T e M (different ℤ-eq M) k
+    pub longer : (e : ℤ) (M : List ℤ) (k : ℕ) → T (e ∷ M) k ≡ spread o s T e M k ⊕ ⊖ merged T e M (different ℤ-eq M) k
 
 -- "for a list with first weight e and rest M it is 1, plus the number for M, plus one number for each different weight d in M, for
 -- M with the first d replaced by d + e; it is 1 for the empty list"

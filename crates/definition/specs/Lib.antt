@@ -1,4 +1,6 @@
 pub mod Definition
+pub mod Product
+pub mod Cost
 pub mod Rules
 pub mod OneAnswer
 pub mod Carry
@@ -6,12 +8,6 @@ pub mod Roots
 pub mod Split
 pub mod Words
 pub mod Answer
-pub mod Refusals
-pub mod Table
-pub mod Accepted
 pub mod Turns
 pub mod Order
-pub mod Cost
 pub mod Merge
-pub mod Edges
-pub mod Cases

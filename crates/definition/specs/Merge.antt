@@ -1,35 +1,27 @@
 -- Merging equal collisions leaves T as it was: T does not see the order of a list, so the first of equal weights may stand for all.
--- And the number of lists worked by it: there is one, at most V(r), since no more weights are different than there are.
+-- And the number of lists worked by it: there is one, since the rule goes by the length of the list, and it is at most V(r), since no
+-- more weights are different than there are.
 use mathlib.Core.Path.{_≡_, refl, sym, ap, ap₂, _∙_, fun-ext}
 use mathlib.Core.List.{List, [], _∷_, _++_}
-use Prim.Native.Nat.{ℕ, zero, suc, _+_, _*_, _-_, _≤_}
+use Prim.Native.Nat.{ℕ, zero, suc, _+_, _*_, _≤_}
 use native.Mathlib.Nat as N
 use native.Mathlib.Omega.{arith}
 use lib.ListN.{length}
 use lib.IntN.{ℤ, pos, negsuc, _+ℤ_}
 use Rattle.algebra.specs.Ring.{Ops, Laws}
-use Rattle.algebra.specs.Power.{pow, nat, int}
-use Rattle.algebra.specs.Sum.{sum, total, total-nil, total-cons, total-append}
-use Rattle.algebra.specs.Binomial.{choose, expand}
+use Rattle.algebra.specs.Power.{nat}
+use Rattle.algebra.specs.Sum.{total, total-nil, total-cons, total-append}
+use Rattle.algebra.specs.Binomial.{expand}
 use Rattle.algebra.specs.Mix.{mix}
 use Rattle.algebra.specs.Natural.{naturals, naturals-semi}
 use Rattle.algebra.specs.Integer.{ℤ-eq}
-use Rattle.placements.specs.Multiplicity.{count, except, different}
-use Rattle.placements.specs.Merge.{replaced, replaced-length, different-length, merge}
+use Rattle.placements.specs.Placements.{count, except, different}
+use Rattle.placements.specs.Places.{replaced}
+use Rattle.placements.specs.Merge.{replaced-length, different-length, merge}
 use Rattle.definition.specs.Definition.{Rule₂}
-use Rattle.definition.specs.Rules.{T, T-meets, same-T}
+use Rattle.definition.specs.Rules.{by-length, spread-cong, T, T-meets, same-T}
 use Rattle.definition.specs.Order.{powers-times, T-mix, T-perm}
 use Rattle.definition.specs.Cost.{met, merged, MergedRule₂, NumberOfLists, lists-up-to, lists, most-lists}
-
--- what holds of the empty list, and of a list if it holds of all that are one shorter, holds of every list
-by-length : (P : List ℤ → Type 0) → P [] → ((e : ℤ) (M : List ℤ) → ((M' : List ℤ) → length M' ≡ length M → P M') → P (e ∷ M)) → (L : List ℤ) → P L
-by-length P start more L = up-to (length L) L (omega arith)
-  where
-    up-to : (n : ℕ) (L : List ℤ) → length L ≤ n → P L
-    up-to zero [] h = start
-    up-to zero (e ∷ M) h = absurd (omega arith)
-    up-to (suc n) [] h = start
-    up-to (suc n) (e ∷ M) h = more e M (λ M' q. up-to n M' (omega arith))
 
 pub met-length : (e : ℤ) (M : List ℤ) (d : ℤ) → length (met e M d) ≡ length M
 met-length e M d = replaced-length ℤ-eq d (d +ℤ e) M
@@ -45,10 +37,6 @@ module _ {A : Type 0} {o : Ops A} (l : Laws o) (s : ℕ → A) where
   pub T-merged : (e : ℤ) (M : List ℤ) (k : ℕ) → T o s (e ∷ M) k ≡ mix o (powers-times o e s) (T o s M) k ⊕ ⊖ merged o (T o s) e M (different ℤ-eq M) k
   T-merged e M k = T-mix l s e M k ∙ ap (λ x. mix o (powers-times o e s) (T o s M) k ⊕ ⊖ x) (merge ℤ-eq (l .semi) _+ℤ_ e (λ M'. T o s M' k) (λ M' M'' p. T-perm l s p k) M)
 
-  T-meets-merged : MergedRule₂ o s (T o s)
-  unfolding mix expand powers-times
-  T-meets-merged = record { empty = T-meets o s .empty; empty-later = T-meets o s .empty-later; longer = T-merged }
-
   -- the merged rule determines T as rule 2 does
   merged-only : {t t' : List ℤ → ℕ → A} → MergedRule₂ o s t → MergedRule₂ o s t' → (L : List ℤ) (k : ℕ) → t L k ≡ t' L k
   merged-only {t} {t'} a b = by-length (λ L. (k : ℕ) → t L k ≡ t' L k) start more
@@ -61,33 +49,25 @@ module _ {A : Type 0} {o : Ops A} (l : Laws o) (s : ℕ → A) where
       more e M ih k =
           a .longer e M k
           ∙ ap₂ (λ x y. x ⊕ ⊖ y)
-          (ap (sum o (suc k)) (fun-ext (λ i. ap (λ x. nat o (choose k i) ⊗ (pow o (int o e) i ⊗ s i ⊗ x)) (ih M refl (k - i)))))
+          (spread-cong o s s t t' e M k (λ i b. refl) (λ j b. ih M refl j))
           (ap (total o (different ℤ-eq M)) (fun-ext (λ d. ap (λ x. nat o (count ℤ-eq d M) ⊗ x) (ih (met e M d) (met-length e M d) k))))
           ∙ sym (b .longer e M k)
 
   -- merging leaves the answer as it was: what the merged rule tells is what rule 2 tells
   pub merging : {t t' : List ℤ → ℕ → A} → Rule₂ o s t → MergedRule₂ o s t' → (L : List ℤ) (k : ℕ) → t L k ≡ t' L k
-  merging a b L k = same-T o a (T-meets o s) L k (λ i h. refl) ∙ merged-only T-meets-merged b L k
+  unfolding mix expand powers-times
+  merging a b L k =
+      same-T o a (T-meets o s) L k (λ i h. refl)
+      ∙ merged-only {t = T o s} (record { empty = T-meets o s .empty; empty-later = T-meets o s .empty-later; longer = T-merged }) b L k
 
 -- ---- the number of lists
-
-lists-enough : (n m : ℕ) (L : List ℤ) → length L ≤ n → length L ≤ m → lists-up-to n L ≡ lists-up-to m L
-unfolding lists-up-to
-lists-enough zero zero [] h h' = refl
-lists-enough zero (suc m) [] h h' = refl
-lists-enough (suc n) zero [] h h' = refl
-lists-enough (suc n) (suc m) [] h h' = refl
-lists-enough zero m (e ∷ M) h h' = absurd (omega arith)
-lists-enough (suc n) zero (e ∷ M) h h' = absurd (omega arith)
-lists-enough (suc n) (suc m) (e ∷ M) h h' = ap₂ (λ x y. 1 + x + y) (lists-enough n m M (omega arith) (omega arith))
-    (ap (total naturals (different ℤ-eq M)) (fun-ext (λ d. lists-enough n m (met e M d) (omega (arith, met-length e M d)) (omega (arith, met-length e M d)))))
 
 pub lists-number : NumberOfLists lists
 unfolding lists lists-up-to
 lists-number = record {
   empty = refl;
   longer = λ e M. ap (λ x. 1 + lists-up-to (length M) M + x)
-      (ap (total naturals (different ℤ-eq M)) (fun-ext (λ d. lists-enough (length M) (length (met e M d)) (met e M d) (omega (arith, met-length e M d)) (omega arith))));
+      (ap (total naturals (different ℤ-eq M)) (fun-ext (λ d. ap (λ n. lists-up-to n (met e M d)) (sym (met-length e M d)))));
 }
 
 -- and no other number meets the rule

@@ -20,7 +20,7 @@ fn shown(text: &[u8], n: usize) {
 }
 
 fn ask(name: &[u8], text: &[u8]) {
-    let mut out = [7u8; 11313];
+    let mut out = [7u8; limits::LONGEST_ANSWER];
     let r = linres_text::answer_text(text, &mut out);
     say(name);
     say(b"\n");

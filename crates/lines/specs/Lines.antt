@@ -30,7 +30,7 @@ mark-text true = bytes "simple=yes\n"
 mark-text false = bytes "simple=no\n"
 
 -- "1 to most numbers", each of which may stand in the list
-pub record Counted {A : Type 0} (Ok : A → Type 0) (most : ℕ) (xs : List A) : Type 0 where
+pub record OneTo {A : Type 0} (most : ℕ) (Ok : A → Type 0) (xs : List A) : Type 0 where
   pub each : Each Ok xs
   pub at-least : 0 < length xs
   pub at-most : length xs ≤ most

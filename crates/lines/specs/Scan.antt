@@ -4,9 +4,7 @@ use mathlib.Core.Bool.{Bool, true, false, cond}
 use mathlib.Core.List.{List, [], _∷_}
 use lib.Dec.{eqb}
 use lib.ListN.{length, getD, drop}
-use Rattle.decimal.specs.declared.Number.{Number}
-use Rattle.decimal.specs.declared.Number.the-variants.{Bad}
-use Rattle.decimal.specs.Scan.{Got, and-then, bad, got, number, value}
+use Rattle.decimal.specs.Scan.{Got, and-then, bad, got, number}
 use Rattle.lines.specs.declared.Head.{Head}
 use Rattle.lines.specs.declared.Mark.{Mark}
 use Rattle.lines.specs.Lines.{bytes, mark-text}
@@ -33,11 +31,6 @@ module _ {A B : Type 0} (first : List ℕ → Got A) (second : List ℕ → Got 
   abbrev pub both : List ℕ → Got (A × B)
   both t = and-then (first t) λ a i. and-then (second (drop i t)) λ b j. got (a, b) (i + j)
 
--- the code's answer for a number
-abbrev pub as-number : Got ℕ → Number
-as-number (got v i) = value v i
-as-number bad = Bad
-
 -- ---- the first two lines of either record, and the mark
 unfoldable pub head : List ℕ → Got (ℕ × ℕ)
 head = both (keyed (bytes "modulus=") (one-line number)) (keyed (bytes "degree=") (one-line number))
@@ -47,11 +40,11 @@ mark t =
     cond (starts (mark-text true) t) (got true (length (mark-text true)))
     (cond (starts (mark-text false) t) (got false (length (mark-text false))) bad)
 
--- the code's answers for these
-abbrev pub as-head : Got (ℕ × ℕ) → Head
-as-head (got v i) = heads.Of (v .0) (v .1) (record { at = i })
-as-head bad = heads.None
+-- what the code's answers say: the values and the place behind them, or row 1
+abbrev pub head-of : Head → Got (ℕ × ℕ)
+head-of (heads.Of m d c) = got (m, d) (c .at)
+head-of heads.None = bad
 
-abbrev pub as-mark : Got Bool → Mark
-as-mark (got b i) = marks.Of b (record { at = i })
-as-mark bad = marks.None
+abbrev pub mark-of : Mark → Got Bool
+mark-of (marks.Of b c) = got b (c .at)
+mark-of marks.None = bad

@@ -2,11 +2,12 @@
 ghost use mathlib.Core.Path.{_≡_};
 ghost use Prim.Native.Nat.{_+_, _≤_};
 ghost use lib.ListN.{length};
+ghost use Rattle.limits.specs.Limits.{most-placements};
 ghost use Rattle.decimal.specs.Spelling.{decimal, signed, Small, Each};
-ghost use Rattle.decimal.specs.Scan.{number, signed-number, read-list, Filled};
+ghost use Rattle.decimal.specs.Scan.{number-of, number, signed-number, read-list, ListRead};
 ghost use Rattle.decimal.specs.Written.{Wrote};
 ghost use Rattle.lines.specs.Lines.{number-line, list-line, refused-line, head-text, mark-text};
-ghost use Rattle.lines.specs.Scan.{starts, one-line, keyed, as-number, head, mark, as-head, as-mark};
+ghost use Rattle.lines.specs.Scan.{starts, one-line, keyed, head, mark, head-of, mark-of};
 use decimal::Cursor;
 use decimal::Listed;
 use decimal::Number;
@@ -42,7 +43,7 @@ pub fn has_key(text: &[u8], key: &[u8]) -> bool
 
 // Reads a key, a number and a line feed at the front of the text.
 pub fn read_number_line(text: &[u8], key: &[u8]) -> Number
-    ensures { λ r. ⌜ r ≡ as-number (keyed (now (key .entry)) (one-line number) (now (text .entry))) ⌝ }
+    ensures { λ r. ⌜ number-of r ≡ keyed (now (key .entry)) (one-line number) (now (text .entry)) ⌝ }
 {
     if has_key(text, key) {
         let k = key.len();
@@ -61,7 +62,7 @@ pub fn read_number_line(text: &[u8], key: &[u8]) -> Number
 
 // Reads a key and a line of numbers into the front of out.
 pub fn read_numbers_line(text: &[u8], key: &[u8], out: &mut [u32]) -> Listed
-    ensures { λ r. ⌜ Filled (keyed (now (key .entry)) (read-list number (length (now (out .entry)))) (now (text .entry))) r (now (out .exit)) ⌝ }
+    ensures { λ r. ⌜ ListRead (keyed (now (key .entry)) (read-list number (length (now (out .entry)))) (now (text .entry))) r (now (out .exit)) ⌝ }
 {
     if has_key(text, key) {
         let k = key.len();
@@ -76,7 +77,7 @@ pub fn read_numbers_line(text: &[u8], key: &[u8], out: &mut [u32]) -> Listed
 
 // The same for numbers from -999 to 999.
 pub fn read_signeds_line(text: &[u8], key: &[u8], out: &mut [i32]) -> Listed
-    ensures { λ r. ⌜ Filled (keyed (now (key .entry)) (read-list signed-number (length (now (out .entry)))) (now (text .entry))) r (now (out .exit)) ⌝ }
+    ensures { λ r. ⌜ ListRead (keyed (now (key .entry)) (read-list signed-number (length (now (out .entry)))) (now (text .entry))) r (now (out .exit)) ⌝ }
 {
     if has_key(text, key) {
         let k = key.len();
@@ -110,8 +111,7 @@ pub fn write_number_line(out: &mut [u8], at: usize, key: &[u8], v: u32) -> usize
 {
     let a = write_bytes(out, at, key);
     let b = decimal::write_u32(out, a, v);
-    out[b] = 10;
-    b + 1
+    decimal::write_byte(out, b, 10)
 }
 
 pub fn write_numbers_line(out: &mut [u8], at: usize, key: &[u8], xs: &[u32]) -> usize
@@ -140,7 +140,7 @@ pub fn write_refused(out: &mut [u8], code: u32) -> usize
 
 // Reads the first two lines.
 pub fn read_head(text: &[u8]) -> Head
-    ensures { λ r. ⌜ r ≡ as-head (head (now (text .entry))) ⌝ }
+    ensures { λ r. ⌜ head-of r ≡ head (now (text .entry)) ⌝ }
 {
     let Number::Value(modulus, c) = read_number_line(text, b"modulus=") else {
         return Head::None;
@@ -155,7 +155,7 @@ pub fn read_head(text: &[u8]) -> Head
 
 // Reads the line of the mark.
 pub fn read_mark(text: &[u8]) -> Mark
-    ensures { λ r. ⌜ r ≡ as-mark (mark (now (text .entry))) ⌝ }
+    ensures { λ r. ⌜ mark-of r ≡ mark (now (text .entry)) ⌝ }
 {
     if has_key(text, b"simple=yes\n") {
         return Mark::Of(true, Cursor { at: 11 });
@@ -167,8 +167,8 @@ pub fn read_mark(text: &[u8]) -> Mark
 }
 
 pub fn head_len(modulus: u32, degree: usize) -> usize
-    requires { ⌜ degree ≤ 1024 ⌝ }
-    ensures { λ r. ⌜ (r ≡ length (head-text modulus degree)) × (r ≤ 4294968340) ⌝ }
+    requires { ⌜ degree ≤ most-placements ⌝ }
+    ensures { λ r. ⌜ (r ≡ length (head-text modulus degree)) × (r ≤ 37) ⌝ }
 {
     let a = 8 + (decimal::width(modulus) + 1);
     a + (7 + (decimal::width(degree as u32) + 1))
@@ -176,7 +176,7 @@ pub fn head_len(modulus: u32, degree: usize) -> usize
 
 // Writes the first two lines at the front of out, which has room for them, and answers the place behind them.
 pub fn write_head(out: &mut [u8], modulus: u32, degree: usize) -> usize
-    requires { ⌜ (degree ≤ 1024) × (0 + length (head-text modulus degree) ≤ length (now out)) ⌝ }
+    requires { ⌜ (degree ≤ most-placements) × (0 + length (head-text modulus degree) ≤ length (now out)) ⌝ }
     ensures { λ r. ⌜ Wrote (head-text modulus degree) (now (out .entry)) 0 (now (out .exit)) r ⌝ }
 {
     let at = write_number_line(out, 0, b"modulus=", modulus);

@@ -1,3 +1,1 @@
-pub mod Six
-pub mod Writing
 pub mod Answering

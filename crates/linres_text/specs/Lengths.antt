@@ -3,30 +3,19 @@
 use mathlib.Core.Path.{_≡_}
 use mathlib.Core.Bool.{Bool, true, false}
 use mathlib.Core.List.{List, [], _∷_, _++_}
-use Prim.Native.Nat.{ℕ, zero, suc, _+_, _*_, _/_, _≤_, _<_}
-use native.Mathlib.Decide.{decLt}
+use Prim.Native.Nat.{ℕ, suc, _+_, _*_, _≤_, _<_}
 use native.Mathlib.Omega.{arith}
 use lib.ListN.{length, length-append}
 use lib.IntN.{ℤ, pos, negsuc}
+use Rattle.limits.specs.Limits.{longest-answer}
+use Rattle.checks.specs.Checks.{row}
+use Rattle.checks.specs.Laws.{first-at-most, row-at-most}
 use Rattle.decimal.specs.Spelling.{Each, Small, Word, after, decimal, line, signed}
-use Rattle.decimal.specs.NumberLaws.{length-more, length-small}
+use Rattle.decimal.specs.NumberLaws.{digits-at-most, word-length}
 use Rattle.lines.specs.Lines.{bytes, head-text, list-line, mark-text, number-line, refused-line}
 use Rattle.records.specs.Records.{Answer, AnswerHolds, Job, JobHolds, answer-text, job-text}
-use Rattle.definition.specs.Refusals.{Call, modulus-checks, polynomial-checks, weight-checks, room-checks, divisor-checks, checks, first, refusal}
-
-abbrev tens : ℕ → ℕ
-tens zero = 1
-tens (suc k) = 10 * tens k
-
-pub digits-at-most : (k n : ℕ) → n < tens (suc k) → length (decimal n) ≤ suc k
-digits-at-most zero n h = rw (length-small n (omega arith)) (omega arith)
-digits-at-most (suc k) n h = elim (decLt n 10) [
-  | yes l ↦ rw (length-small n l) (omega arith)
-  | no l ↦ let i : length (decimal (n / 10)) ≤ suc k = digits-at-most k (n / 10) (omega arith) in omega (arith, length-more n (omega arith))
-]
-
-word-length : (n : ℕ) → Word n → length (decimal n) ≤ 10
-word-length n h = digits-at-most 9 n (omega arith)
+use Rattle.refusals.specs.Refusals.{modulus-checks, degree-checks, coefficient-checks, weight-checks, number-checks, job-checks}
+use Rattle.linres_text.specs.Texts.{rows-of, job-refusal}
 
 small-length : (z : ℤ) → Small z → length (signed z) ≤ 4
 unfolding signed
@@ -46,7 +35,12 @@ module _ {A : Type 0} (Ok : A → Type 0) (spell : A → List ℕ) (k : ℕ) (sh
 
 head-length : (m d : ℕ) → length (head-text m d) ≡ length (decimal m) + length (decimal d) + 17
 unfolding head-text bytes
-head-length m d = omega (arith, length-append (number-line (bytes "modulus=") m) (number-line (bytes "degree=") d), length-append (decimal m) (10 ∷ []), length-append (decimal d) (10 ∷ []))
+head-length m d = omega (
+  arith,
+  length-append (number-line (bytes "modulus=") m) (number-line (bytes "degree=") d),
+  length-append (decimal m) (10 ∷ []),
+  length-append (decimal d) (10 ∷ []),
+)
 
 mark-length : (b : Bool) → length (mark-text b) ≤ 11
 unfolding mark-text bytes
@@ -68,7 +62,7 @@ job-length j h = omega (
   h .weights .at-most,
 )
 
-pub answer-length : (a : Answer) → AnswerHolds a → length (answer-text a) ≤ 11313
+pub answer-length : (a : Answer) → AnswerHolds a → length (answer-text a) ≤ longest-answer
 unfolding answer-text bytes
 answer-length a h = omega (
   arith,
@@ -82,24 +76,18 @@ answer-length a h = omega (
   h .coeffs .at-most,
 )
 
--- ---- a refusal's line: no number is above 16
-abbrev AtMost : ℕ → List (Bool × ℕ) → Type 0
-AtMost m [] = Unit {0}
-AtMost m ((t, k) ∷ rows) = (k ≤ m) × AtMost m rows
+-- ---- a refusal's line: no number of a text's is above 10
+pub refusal-at-most : (j : Job) → job-refusal j ≤ 10
+unfolding job-refusal job-checks modulus-checks degree-checks coefficient-checks weight-checks number-checks
+refusal-at-most j = first-at-most 10 (rows-of j) (omega arith)
 
-first-at-most : (m : ℕ) (rows : List (Bool × ℕ)) → AtMost m rows → first rows ≤ m
-unfolding first
-first-at-most m [] h = omega arith
-first-at-most m ((true, k) ∷ rows) h = h .0
-first-at-most m ((false, k) ∷ rows) h = first-at-most m rows (h .1)
-
-pub refusal-at-most : (c : Call) → refusal c ≤ 16
-unfolding refusal checks modulus-checks polynomial-checks weight-checks room-checks divisor-checks
-refusal-at-most c = first-at-most 16 (checks c) (omega arith)
+pub row-number-at-most : (j : Job) (i : ℕ) → i < length (rows-of j) → row (rows-of j) i .1 ≤ 10
+unfolding job-checks modulus-checks degree-checks coefficient-checks weight-checks number-checks
+row-number-at-most j = row-at-most 10 (rows-of j) (omega arith)
 
 pub refused-length : (n : ℕ) → length (refused-line n) ≡ 9 + length (decimal n)
 unfolding refused-line bytes
 refused-length n = omega (arith, length-append (decimal n) (10 ∷ []))
 
-pub refused-short : (n : ℕ) → n ≤ 16 → length (refused-line n) ≤ 11
+pub refused-short : (n : ℕ) → n ≤ 10 → length (refused-line n) ≤ 11
 refused-short n h = omega (arith, refused-length n, digits-at-most 1 n (omega arith))

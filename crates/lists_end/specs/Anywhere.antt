@@ -12,13 +12,13 @@ use Rattle.algebra.specs.Power.{nat}
 use Rattle.algebra.specs.Newton.{power-sum}
 use Rattle.algebra.specs.Hom.{Hom, hom-nat}
 use Rattle.algebra.specs.Integer.{ℤ-eq}
-use Rattle.placements.specs.Multiplicity.{factorials}
-use Rattle.placements.specs.Number.{placed}
+use Rattle.placements.specs.Placements.{factorials, placed}
 use Rattle.definition.specs.Definition.{Rule₁, Resolvent}
+use Rattle.definition.specs.Product.{product, values}
 use Rattle.definition.specs.Rules.{T, T-meets, same-T}
 use Rattle.definition.specs.OneAnswer.{same-sums, one-answer}
 use Rattle.definition.specs.Carry.{hom-Rule₁, hom-Rule₂, carry}
-use Rattle.definition.specs.Roots.{product, values, sums-of-roots}
+use Rattle.definition.specs.Roots.{sums-of-roots}
 use Rattle.definition.specs.Split.{T-placements, split}
 use Rattle.splitting.specs.Splitting.{Splitting}
 

@@ -15,10 +15,9 @@ use Rattle.algebra.specs.Integer.{ℤ-eq}
 use Rattle.residues.specs.Prime.{Prime, prime-positive}
 use Rattle.residues.specs.Residues.{residues, Words, Z, ring, reduce, laws, reduce-hom, word-hom, word-reduce}
 use Rattle.residues.specs.Field.{inverse, nat-inverse}
-use Rattle.placements.specs.Multiplicity.{factorials}
-use Rattle.placements.specs.Number.{placed}
+use Rattle.placements.specs.Placements.{factorials, placed}
 use Rattle.definition.specs.Definition.{Resolvent}
-use Rattle.definition.specs.Roots.{product, values}
+use Rattle.definition.specs.Product.{product, values}
 use Rattle.splitting.specs.Splitting.{Splitting, splitting}
 use Rattle.lists_end.specs.Anywhere.{resolvent-is}
 

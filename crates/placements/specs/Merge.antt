@@ -2,7 +2,7 @@
 -- It is so for every function of lists that does not see their order, since the first of equal weights may stand for all.
 -- A walk over the places of a list comes upon a different weight exactly where no equal one stands before (`different-new`).
 use mathlib.Core.Path.{_≡_, refl, sym, ap, _∙_, fun-ext}
-use mathlib.Core.Logic.{ite, if-pos, if-neg, by-cases}
+use mathlib.Core.Logic.{if-pos, if-neg, by-cases}
 use mathlib.Core.List.{List, [], _∷_, _++_, append-nil, List·Permᴰ, Permᴰ·refl, List·Permᴰ·cons as pcons, List·Permᴰ·swap as pswap, List·Permᴰ·trans as ptrans}
 use Prim.Native.Nat.{ℕ, suc, _≤_, _<_}
 use native.Mathlib.Nat.{suc-ne-zero, le-refl}
@@ -15,23 +15,14 @@ use Rattle.algebra.specs.Ring.{Ops, Semi}
 use Rattle.algebra.specs.Power.{nat}
 use Rattle.algebra.specs.Sum.{total, total-cong}
 use Rattle.algebra.specs.Integer.{ℤ-eq}
-use Rattle.placements.specs.Multiplicity.{count, without, except, different, count-nil, count-same, count-other, without-same, without-other}
+use Rattle.placements.specs.Placements.{count, except, different, without}
+use Rattle.placements.specs.Places.{with-sum, replaced}
+use Rattle.placements.specs.Multiplicity.{count-nil, count-same, count-other, without-same, without-other}
 use Rattle.placements.specs.Multiplicity.{except-nil, except-same, except-other, different-nil, different-cons, different-there}
 use Rattle.placements.specs.Laying.{removals, collisions, removals-nil, removals-cons, collisions-nil, collisions-cons}
-use Rattle.placements.specs.Places.{with-sum}
 use Rattle.placements.specs.Number.{removals-different}
 
 module _ {W : Type 0} (eq : Discrete W) where
-  -- a list with its first d replaced by x
-  unfoldable pub replaced : W → W → List W → List W
-  replaced d x [] = []
-  replaced d x (y ∷ M) = ite (eq d y) (x ∷ M) (y ∷ replaced d x M)
-
-module _ {W : Type 0} (eq : Discrete W) where
-  replaced-nil : (d x : W) → replaced eq d x [] ≡ []
-  unfolding replaced
-  replaced-nil d x = refl
-
   module _ (d x y : W) (M : List W) where
     replaced-same : d ≡ y → replaced eq d x (y ∷ M) ≡ x ∷ M
     unfolding replaced
@@ -42,10 +33,11 @@ module _ {W : Type 0} (eq : Discrete W) where
     replaced-other n = if-neg (eq d y) n _ _
 
   pub replaced-length : (d x : W) (M : List W) → length (replaced eq d x M) ≡ length M
-  replaced-length d x [] = rw replaced-nil
+  unfolding replaced
+  replaced-length d x [] = refl
   replaced-length d x (y ∷ M) = by-cases (eq d y)
-      (λ e. rw (replaced-same d x y M e))
-      (λ n. rw (replaced-other d x y M n) (ap suc (replaced-length d x M)))
+      (λ e. ap length (replaced-same d x y M e))
+      (λ n. ap length (replaced-other d x y M n) ∙ ap suc (replaced-length d x M))
 
   -- up to order, x takes the place of one d
   pub replaced-perm : (d x : W) (M : List W) → ¬ (count eq d M ≡ 0) → List·Permᴰ (x ∷ without eq d M) (replaced eq d x M)
@@ -67,25 +59,26 @@ module _ {W : Type 0} (eq : Discrete W) where
       (λ e. rw (except-same eq x y (D ++ E) e, except-same eq x y D e) (except-append x D E))
       (λ n. rw (except-other eq x y (D ++ E) n, except-other eq x y D n, except-append x D E))
 
-  except-here : (x d : W) → d ≡ x → except eq x (d ∷ []) ≡ []
-  except-here x d e = except-same eq x d [] (sym e) ∙ except-nil eq x
-
-  except-apart : (x d : W) → ¬ (d ≡ x) → except eq x (d ∷ []) ≡ d ∷ []
-  except-apart x d n = except-other eq x d [] (λ e. n (sym e)) ∙ ap (λ E. d ∷ E) (except-nil eq x)
-
   -- one weight more, which is new
   pub different-new : (d : W) (M : List W) → count eq d M ≡ 0 → different eq (M ++ d ∷ []) ≡ different eq M ++ d ∷ []
   different-new d [] h = rw (different-cons eq d [], different-nil eq, except-nil eq d)
   different-new d (x ∷ M) h = by-cases (eq d x)
       (λ e. absurd (suc-ne-zero _ (sym (count-same eq d x M e) ∙ h)))
-      (λ n. rw (different-cons eq x (M ++ d ∷ []), different-cons eq x M, different-new d M (sym (count-other eq d x M n) ∙ h), except-append x (different eq M) (d ∷ []), except-apart x d n))
+      (λ n. rw (
+        different-cons eq x (M ++ d ∷ []),
+        different-cons eq x M,
+        different-new d M (sym (count-other eq d x M n) ∙ h),
+        except-append x (different eq M) (d ∷ []),
+        except-other eq x d [] (λ e. n (sym e)),
+        except-nil eq x,
+      ))
 
   -- and one that stood before
   pub different-old : (d : W) (M : List W) → ¬ (count eq d M ≡ 0) → different eq (M ++ d ∷ []) ≡ different eq M
   different-old d [] h = absurd (h (count-nil eq d))
   different-old d (x ∷ M) h = rw (different-cons eq x (M ++ d ∷ []), different-cons eq x M) (by-cases (ℕ-discrete (count eq d M) 0)
       (λ z. by-cases (eq d x)
-      (λ e. rw (different-new d M z, except-append x (different eq M) (d ∷ []), except-here x d e, append-nil))
+      (λ e. rw (different-new d M z, except-append x (different eq M) (d ∷ []), except-same eq x d [] (sym e), except-nil eq x, append-nil))
       (λ n. absurd (h (count-other eq d x M n ∙ z))))
       (λ n. rw (different-old d M n)))
 

@@ -1,55 +1,40 @@
--- Multiplicities: how often a weight stands in a list, the different weights of a list, and the product of m! over them.
--- The product grows by the factor 1 + count when a weight joins (`factorials-cons`): apart from that weight nothing changes,
--- which holds alike of sums and products over the different weights, so it is said once of both (`split`).
-use mathlib.Core.Path.{_≡_, refl, sym, _∙_, ap, fun-ext}
-use mathlib.Core.Logic.{ite, if-pos, if-neg, by-cases, ⊎-elim, ∥∥₁-elim}
+-- How often weights occur, the different ones among them, and the product of m!.
+-- The product grows by the factor 1 + count when a weight joins (`factorials-cons`): apart from that weight nothing changes. To take
+-- it apart it is brought to the front (`bring-first`), which is said once, of sums and of products over the different weights.
+use mathlib.Core.Path.{_≡_, refl, sym, _∙_, ap}
+use mathlib.Core.Logic.{if-pos, if-neg, by-cases, ⊎-elim, ∥∥₁-elim}
 use mathlib.Core.HLevel.{⊥-prop}
 use mathlib.Core.List.{List, [], _∷_, _++_, List·Permᴰ, Permᴰ·refl, List·Permᴰ·nil as pnil, List·Permᴰ·cons as pcons, List·Permᴰ·swap as pswap, List·Permᴰ·trans as ptrans}
 use mathlib.Core.List.{List·Memᴰ, List·Memᴰ·not-nil, List·Memᴰ·cases-cons, List·Memᴰ·head as mhead, List·Memᴰ·tail as mtail, List·Nodup, nodup-nil, nodup-cons}
 use Prim.Native.Nat.{ℕ, suc, _+_, _*_, _≤_, _<_}
 use native.Mathlib.Nat.{zero-add, mul-assoc, mul-left-comm, one-mul, mul-pos, suc-ne-zero}
+use native.Mathlib.Decide.{ℕ-discrete}
 use native.Mathlib.Omega.{arith}
 use lib.ListN.{length}
 use Rattle.algebra.specs.Binomial.{fact, fact-zero, fact-suc}
+use Rattle.placements.specs.Placements.{prod, count, except, different, factorials, without}
 
--- the product of the numbers f x over the members x of a list
-unfoldable pub prod : {X : Type 0} → List X → (X → ℕ) → ℕ
-prod [] f = 1
-prod (x ∷ xs) f = f x * prod xs f
+-- a sum or a product over the members of a list
+pub record Fold (W A : Type 0) : Type 0 where
+  pub op : A → A → A
+  pub start : A
+  pub start-op : (a : A) → op start a ≡ a
+  pub left-comm : (a b c : A) → op a (op b c) ≡ op b (op a c)
+  pub over : List W → (W → A) → A
+  pub over-nil : (f : W → A) → over [] f ≡ start
+  pub over-cons : (w : W) (L : List W) (f : W → A) → over (w ∷ L) f ≡ op (f w) (over L f)
 
-module _ {W : Type 0} (eq : Discrete W) where
-  -- how often w occurs in a list
-  unfoldable pub count : W → List W → ℕ
-  count w [] = 0
-  count w (x ∷ L) = ite (eq w x) (suc (count w L)) (count w L)
-
-  -- a list without its first w
-  unfoldable pub without : W → List W → List W
-  without w [] = []
-  without w (x ∷ L) = ite (eq w x) L (x ∷ without w L)
-
-  -- a list without any w
-  unfoldable pub except : W → List W → List W
-  except w [] = []
-  except w (x ∷ L) = ite (eq w x) (except w L) (x ∷ except w L)
-
-  -- each different weight of a list once
-  unfoldable pub different : List W → List W
-  different [] = []
-  different (w ∷ L) = w ∷ except w (different L)
-
-  -- the product of m! over the different weights, m being how often each occurs
-  unfoldable pub factorials : List W → ℕ
-  factorials L = prod (different L) (λ w. fact (count w L))
-
-module _ {X : Type 0} where
-  prod-nil : (f : X → ℕ) → prod [] f ≡ 1
+module _ {W : Type 0} where
+  prod-nil : (f : W → ℕ) → prod [] f ≡ 1
   unfolding prod
   prod-nil f = refl
 
-  prod-cons : (x : X) (xs : List X) (f : X → ℕ) → prod (x ∷ xs) f ≡ f x * prod xs f
+  prod-cons : (w : W) (L : List W) (f : W → ℕ) → prod (w ∷ L) f ≡ f w * prod L f
   unfolding prod
-  prod-cons x xs f = refl
+  prod-cons w L f = refl
+
+  abbrev products : Fold W ℕ
+  products = record { op = _*_; start = 1; start-op = one-mul; left-comm = mul-left-comm; over = prod; over-nil = prod-nil; over-cons = prod-cons }
 
 module _ {W : Type 0} (eq : Discrete W) where
   module _ (w x : W) (L : List W) where
@@ -97,49 +82,61 @@ module _ {W : Type 0} (eq : Discrete W) where
   unfolding different
   different-cons w L = refl
 
-  -- h, but u at x
-  mask : {A : Type 0} → A → W → (W → A) → W → A
-  mask u x h w = ite (eq x w) u (h w)
+  count-step : (w x : W) (L M : List W) → count eq w L ≡ count eq w M → count eq w (x ∷ L) ≡ count eq w (x ∷ M)
+  count-step w x L M h = by-cases (eq w x) (λ e. simp (count-same) (ap suc h)) (λ n. simp (count-other) h)
 
-  module _ {A : Type 0} (u : A) (x : W) (h : W → A) (w : W) where
-    mask-same : x ≡ w → mask u x h w ≡ u
-    unfolding mask
-    mask-same e = if-pos (eq x w) e _ _
+  -- ---- the different weights are there once each
+  count-except : (x : W) (D : List W) → count eq x (except eq x D) ≡ 0
+  count-except x [] = rw (except-nil x) (count-nil x)
+  count-except x (y ∷ D) = by-cases (eq x y)
+      (λ e. rw (except-same x y D e) (count-except x D))
+      (λ n. rw (except-other x y D n, count-other x y (except eq x D) n) (count-except x D))
 
-    mask-other : ¬ (x ≡ w) → mask u x h w ≡ h w
-    unfolding mask
-    mask-other n = if-neg (eq x w) n _ _
+  count-except-other : (x w : W) → ¬ (x ≡ w) → (D : List W) → count eq x (except eq w D) ≡ count eq x D
+  count-except-other x w n [] = rw (except-nil w)
+  count-except-other x w n (y ∷ D) = by-cases (eq w y)
+      (λ e. rw (except-same w y D e, count-other x y D (λ q. n (q ∙ sym e))) (count-except-other x w n D))
+      (λ m. rw (except-other w y D m) (count-step x y _ _ (count-except-other x w n D)))
 
-  mask-mask : {A : Type 0} (u : A) (x : W) (h : W → A) → mask u x (mask u x h) ≡ mask u x h
-  mask-mask u x h = fun-ext (λ w. by-cases (eq x w) (λ e. simp (mask-same, e)) (λ n. simp (mask-other, n)))
+  -- a weight that occurs is among them once, and no other is
+  count-different : (x : W) (M : List W) → (count eq x M ≡ 0 → count eq x (different eq M) ≡ 0) × (¬ (count eq x M ≡ 0) → count eq x (different eq M) ≡ 1)
+  count-different x [] = rw (different-nil) (λ z. z, λ h. absurd (h (count-nil x)))
+  count-different x (y ∷ M) = rw (different-cons y M) (by-cases (eq x y)
+      (λ e. (λ z. absurd (suc-ne-zero _ (sym (count-same x y M e) ∙ z)), λ h. count-same x y _ e ∙ ap suc (rw (← e) (count-except x (different eq M)))))
+      (λ n. rw (count-other x y (except eq y (different eq M)) n, count-other x y M n, count-except-other x y n (different eq M)) (count-different x M)))
 
-  mask-comm : {A : Type 0} (u : A) (x y : W) (h : W → A) → mask u x (mask u y h) ≡ mask u y (mask u x h)
-  mask-comm u x y h = fun-ext (λ w. by-cases (eq x w)
-      (λ e. by-cases (eq y w) (λ f. simp (mask-same, e, f)) (λ n. simp (mask-same, mask-other, e, n)))
-      (λ n. by-cases (eq y w) (λ f. simp (mask-same, mask-other, f, n)) (λ m. simp (mask-other, n, m))))
+  at-most-once : (x : W) (M : List W) → count eq x (different eq M) ≤ 1
+  at-most-once x M = let d = count-different x M in by-cases (ℕ-discrete (count eq x M) 0) (λ z. omega (arith, d .0 z)) (λ n. omega (arith, d .1 n))
 
-  -- big f: a sum or a product of the f w over a list
-  module _ {A : Type 0} (op : A → A → A) (u : A) (unit : (a : A) → op u a ≡ a) (left-comm : (a b c : A) → op a (op b c) ≡ op b (op a c))
-      (big : List W → (W → A) → A) (big-nil : (f : W → A) → big [] f ≡ u) (big-cons : (w : W) (L : List W) (f : W → A) → big (w ∷ L) f ≡ op (f w) (big L f)) where
-    big-except : (x : W) (D : List W) (h : W → A) → big (except eq x D) h ≡ big D (mask u x h)
-    unfolding except
-    big-except x [] h = big-nil h ∙ sym (big-nil _)
-    big-except x (y ∷ D) h = by-cases (eq x y)
-        (λ e. rw (except-same x y D e, big-cons y D (mask u x h), mask-same u x h y e, unit) (big-except x D h))
-        (λ n. rw (except-other x y D n, big-cons y D (mask u x h), mask-other u x h y n, big-cons y (except eq x D) h, big-except x D h))
+  absent : (x : W) (D : List W) → count eq x D ≡ 0 → except eq x D ≡ D
+  absent x [] z = except-nil x
+  absent x (y ∷ D) z = by-cases (eq x y)
+      (λ e. absurd (suc-ne-zero _ (sym (count-same x y D e) ∙ z)))
+      (λ n. rw (except-other x y D n, absent x D (sym (count-other x y D n) ∙ z)))
 
-    pub except-cong : (x : W) (D : List W) (h k : W → A) → ((w : W) → ¬ (x ≡ w) → h w ≡ k w) → big (except eq x D) h ≡ big (except eq x D) k
-    except-cong x D h k c = big-except x D h ∙ ap (big D) (fun-ext (λ w. by-cases (eq x w) (λ e. simp (mask-same, e)) (λ n. simp (mask-other, n) (c w n)))) ∙ sym (big-except x D k)
+  module _ {A : Type 0} (F : Fold W A) where
+    pub except-cong : (x : W) (D : List W) (h k : W → A) → ((w : W) → ¬ (x ≡ w) → h w ≡ k w) → F .over (except eq x D) h ≡ F .over (except eq x D) k
+    except-cong x [] h k c = rw (except-nil x) (F .over-nil h ∙ sym (F .over-nil k))
+    except-cong x (y ∷ D) h k c = by-cases (eq x y)
+        (λ e. rw (except-same x y D e) (except-cong x D h k c))
+        (λ n. rw (except-other x y D n, F .over-cons y (except eq x D) h, F .over-cons y (except eq x D) k, c y n, except-cong x D h k c))
 
-    -- x stands apart; a member that is not there counts for nothing
-    pub split : (x : W) (M : List W) (h : W → A) → (count eq x M ≡ 0 → h x ≡ u) → big (different eq M) h ≡ op (h x) (big (except eq x (different eq M)) h)
-    split x [] h c = simp (different-nil, except-nil, big-nil, c (count-nil x), unit)
-    split x (y ∷ N) h c = by-cases (eq x y)
-        (λ e. rw e (simp (different-cons, big-cons, except-same, big-except, mask-mask)))
-        (λ n. let n' : ¬ (y ≡ x) = λ e. n (sym e) in
-        let ih : big (different eq N) (mask u y h) ≡ op (h x) (big (different eq N) (mask u x (mask u y h))) =
-        split x N (mask u y h) (λ z. mask-other u y h x n' ∙ c (count-other x y N n ∙ z)) ∙ simp (big-except, mask-other, n') in
-        simp (different-cons, big-cons, except-other, n, big-except, ih, mask-comm u x y h) (left-comm _ _ _))
+    once-first : (x : W) (D : List W) (h : W → A) → count eq x D ≤ 1 → (count eq x D ≡ 0 → h x ≡ F .start) → F .over D h ≡ F .op (h x) (F .over (except eq x D) h)
+    once-first x [] h a c = simp (except-nil, F .over-nil, c (count-nil x), F .start-op)
+    once-first x (y ∷ D) h a c = by-cases (eq x y)
+        (λ e. rw (except-same x y D e, absent x D (omega (arith, count-same x y D e)), F .over-cons y D h, e))
+        (λ n. rw (
+          except-other x y D n,
+          F .over-cons y D h,
+          F .over-cons y (except eq x D) h,
+          once-first x D h (rw (count-other x y D n) at a) (λ z. c (count-other x y D n ∙ z)),
+        ) (F .left-comm _ _ _))
+
+    -- x goes first; a member that is not there counts for nothing
+    pub bring-first : (x : W) (M : List W) (h : W → A) → (count eq x M ≡ 0 → h x ≡ F .start)
+        → F .over (different eq M) h ≡ F .op (h x) (F .over (except eq x (different eq M)) h)
+    bring-first x M h c = once-first x (different eq M) h (at-most-once x M)
+        (λ z. by-cases (ℕ-discrete (count eq x M) 0) c (λ n. absurd (suc-ne-zero 0 (sym (count-different x M .1 n) ∙ z))))
 
   pub factorials-nil : factorials eq [] ≡ 1
   unfolding factorials different prod
@@ -153,8 +150,8 @@ module _ {W : Type 0} (eq : Discrete W) where
     prod-cons x (except eq x (different eq L)),
     count-same x x L refl,
     fact-suc (count eq x L),
-    except-cong _*_ 1 one-mul mul-left-comm prod prod-nil prod-cons x (different eq L) (λ w. fact (count eq w (x ∷ L))) (λ w. fact (count eq w L)) (λ w n. ap fact (count-other w x L (λ e. n (sym e)))),
-    split _*_ 1 one-mul mul-left-comm prod prod-nil prod-cons x L (λ w. fact (count eq w L)) (λ z. ap fact z ∙ fact-zero),
+    except-cong products x (different eq L) (λ w. fact (count eq w (x ∷ L))) (λ w. fact (count eq w L)) (λ w n. ap fact (count-other w x L (λ e. n (sym e)))),
+    bring-first products x L (λ w. fact (count eq w L)) (λ z. ap fact z ∙ fact-zero),
   ) (mul-assoc _ _ _)
 
   -- what is left does not lose other members
@@ -162,35 +159,28 @@ module _ {W : Type 0} (eq : Discrete W) where
   count-without x w n [] = rw without-nil
   count-without x w n (y ∷ L) = by-cases (eq w y)
       (λ e. rw (without-same w y L e, count-other x y L (λ f. n (f ∙ sym e))))
-      (λ m. rw (without-other w y L m) (by-cases (eq x y)
-      (λ e. rw (count-same x y L e, count-same x y (without eq w L) e, count-without x w n L))
-      (λ k. rw (count-other x y L k, count-other x y (without eq w L) k, count-without x w n L))))
+      (λ m. rw (without-other w y L m) (count-step x y _ _ (count-without x w n L)))
 
   -- w is taken out: its multiplicity is the factor that goes
   pub factorials-without : (w : W) (L : List W) → ¬ (count eq w L ≡ 0) → count eq w L * factorials eq (without eq w L) ≡ factorials eq L
   factorials-without w [] h = absurd (h (count-nil w))
   factorials-without w (x ∷ L) h = by-cases (eq w x)
       (λ e. rw (e, count-same x x L refl, without-same x x L refl, factorials-cons))
-      (λ n. rw (count-other w x L n, without-other w x L n, factorials-cons x L, factorials-cons x (without eq w L), count-without x w (λ e. n (sym e)) L, mul-left-comm, factorials-without w L (λ z. h (count-other w x L n ∙ z))))
+      (λ n. rw (
+        count-other w x L n,
+        without-other w x L n,
+        factorials-cons x L,
+        factorials-cons x (without eq w L),
+        count-without x w (λ e. n (sym e)) L,
+        mul-left-comm,
+        factorials-without w L (λ z. h (count-other w x L n ∙ z)),
+      ))
 
   pub without-perm : (w : W) (L : List W) → ¬ (count eq w L ≡ 0) → List·Permᴰ (w ∷ without eq w L) L
   without-perm w [] h = absurd (h (count-nil w))
   without-perm w (x ∷ L) h = by-cases (eq w x)
       (λ e. rw (without-same w x L e) (pcons e (Permᴰ·refl L)))
       (λ n. rw (without-other w x L n) (ptrans (pswap refl refl) (pcons refl (without-perm w L (λ z. h (count-other w x L n ∙ z))))))
-
-  pub except-mem : (w x : W) (D : List W) → List·Memᴰ w (except eq x D) → List·Memᴰ w D × ¬ (x ≡ w)
-  except-mem w x [] m = absurd (List·Memᴰ·not-nil (rw except-nil at m))
-  except-mem w x (y ∷ D) m = by-cases (eq x y)
-      (λ e. let r = except-mem w x D (rw (except-same x y D e) at m) in (mtail (r .0), r .1))
-      (λ n. ⊎-elim (λ e. (mhead e, λ f. n (f ∙ e))) (λ k. let r = except-mem w x D k in (mtail (r .0), r .1)) (List·Memᴰ·cases-cons (rw (except-other x y D n) at m)))
-
-  -- the different members of a list are its members
-  pub different-there : (w : W) (L : List W) → List·Memᴰ w (different eq L) → ¬ (count eq w L ≡ 0)
-  different-there w [] m z = List·Memᴰ·not-nil (rw different-nil at m)
-  different-there w (x ∷ L) m z = by-cases (eq w x)
-      (λ e. suc-ne-zero _ (sym (count-same w x L e) ∙ z))
-      (λ n. ⊎-elim n (λ k. different-there w L (except-mem w x (different eq L) k .0) (sym (count-other w x L n) ∙ z)) (List·Memᴰ·cases-cons (rw different-cons at m)))
 
   pub factorials-positive : (L : List W) → 0 < factorials eq L
   factorials-positive [] = rw factorials-nil (omega arith)
@@ -210,9 +200,6 @@ module _ {W : Type 0} (eq : Discrete W) where
       by-cases (eq w x)
       (λ e. rw (count-same w x L e, count-same w x (L ++ M) e) (omega (arith, ih)))
       (λ n. rw (count-other w x L n, count-other w x (L ++ M) n) ih)
-
-  count-step : (w x : W) (L M : List W) → count eq w L ≡ count eq w M → count eq w (x ∷ L) ≡ count eq w (x ∷ M)
-  count-step w x L M h = by-cases (eq w x) (λ e. simp (count-same) (ap suc h)) (λ n. simp (count-other) h)
 
   count-swap : (w x y : W) (L : List W) → count eq w (x ∷ y ∷ L) ≡ count eq w (y ∷ x ∷ L)
   count-swap w x y L = by-cases (eq w x)
@@ -242,25 +229,30 @@ module _ {W : Type 0} (eq : Discrete W) where
   without-cong w (pswap {a = a} {b = b} {l = L} e f) = rw (← e, ← f) (without-swap w a b L)
   without-cong w (ptrans p q) = ptrans (without-cong w p) (without-cong w q)
 
-  except-in : (w x : W) (D : List W) → ¬ (x ≡ w) → List·Memᴰ w D → List·Memᴰ w (except eq x D)
-  except-in w x [] n m = absurd (List·Memᴰ·not-nil m)
-  except-in w x (y ∷ D) n m = by-cases (eq x y)
-      (λ e. rw (except-same x y D e) (⊎-elim (λ f. absurd (n (e ∙ sym f))) (λ k. except-in w x D n k) (List·Memᴰ·cases-cons m)))
-      (λ k. rw (except-other x y D k) (⊎-elim (λ f. mhead f) (λ r. mtail (except-in w x D n r)) (List·Memᴰ·cases-cons m)))
+  -- ---- members, by how often they occur
+  mem-count : (w : W) (D : List W) → List·Memᴰ w D → ¬ (count eq w D ≡ 0)
+  mem-count w [] m z = List·Memᴰ·not-nil m
+  mem-count w (x ∷ D) m z = by-cases (eq w x)
+      (λ e. suc-ne-zero _ (sym (count-same w x D e) ∙ z))
+      (λ n. ⊎-elim n (λ k. mem-count w D k (sym (count-other w x D n) ∙ z)) (List·Memᴰ·cases-cons m))
+
+  count-mem : (w : W) (D : List W) → ¬ (count eq w D ≡ 0) → List·Memᴰ w D
+  count-mem w [] h = absurd (h (count-nil w))
+  count-mem w (x ∷ D) h = by-cases (eq w x) mhead (λ n. mtail (count-mem w D (λ z. h (count-other w x D n ∙ z))))
+
+  count-once : (D : List W) → ((x : W) → count eq x D ≤ 1) → List·Nodup D
+  count-once [] h = nodup-nil
+  count-once (x ∷ D) h = nodup-cons .1 (
+    λ m. ∥∥₁-elim m ⊥-prop (λ k. mem-count x D k (omega (arith, h x, count-same x x D refl))),
+    count-once D (λ y. by-cases (eq y x) (λ e. omega (arith, h y, count-same y x D e)) (λ n. omega (arith, h y, count-other y x D n))),
+  )
+
+  -- the different members of a list are its members, each once
+  pub different-there : (w : W) (L : List W) → List·Memᴰ w (different eq L) → ¬ (count eq w L ≡ 0)
+  different-there w L m z = mem-count w (different eq L) m (count-different w L .0 z)
 
   pub different-in : (w : W) (L : List W) → ¬ (count eq w L ≡ 0) → List·Memᴰ w (different eq L)
-  different-in w [] h = absurd (h (count-nil w))
-  different-in w (x ∷ L) h = rw (different-cons x L) (by-cases (eq w x)
-      (λ e. mhead e)
-      (λ n. mtail (except-in w x (different eq L) (λ e. n (sym e)) (different-in w L (λ z. h (count-other w x L n ∙ z))))))
-
-  except-once : (x : W) (D : List W) → List·Nodup D → List·Nodup (except eq x D)
-  except-once x [] h = rw (except-nil x) nodup-nil
-  except-once x (y ∷ D) h = let r = nodup-cons .0 h in by-cases (eq x y)
-      (λ e. rw (except-same x y D e) (except-once x D (r .1)))
-      (λ n. rw (except-other x y D n) (nodup-cons .1 (λ m. ∥∥₁-elim m ⊥-prop (λ k. r .0 ∣ except-mem y x D k .0 ∣₁), except-once x D (r .1))))
+  different-in w L h = count-mem w (different eq L) (λ z. suc-ne-zero 0 (sym (count-different w L .1 h) ∙ z))
 
   pub different-once : (L : List W) → List·Nodup (different eq L)
-  different-once [] = rw different-nil nodup-nil
-  different-once (x ∷ L) = rw (different-cons x L)
-      (nodup-cons .1 (λ m. ∥∥₁-elim m ⊥-prop (λ k. except-mem x x (different eq L) k .1 refl), except-once x (different eq L) (different-once L)))
+  different-once L = count-once (different eq L) (λ x. at-most-once x L)

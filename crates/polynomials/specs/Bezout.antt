@@ -10,6 +10,7 @@ use native.Mathlib.Decide.{decLe, map-dec}
 use native.Mathlib.Omega.{arith}
 use Rattle.algebra.specs.Ring.{Ops, Laws, Field}
 use Rattle.algebra.specs.Ring as R
+use Rattle.algebra.specs.Natural.{strong}
 use Rattle.algebra.specs.Series.{series, series-laws, monomial, monomial-here, monomial-past, monomial-over, one-at, add-at}
 use Rattle.residues.specs.Prime.{Prime}
 use Rattle.residues.specs.Residues.{ring, reduce}
@@ -39,7 +40,7 @@ module _ {A : Type 0} (o : Ops A) where
     pub right : Divides o divisor g
 
   -- f + t g has no coefficient from x^k on
-  record Remainder (f g : ℕ → A) (k : ℕ) : Type 0 where
+  record Reduction (f g : ℕ → A) (k : ℕ) : Type 0 where
     t : ℕ → A
     bound : ℕ
     below : Below o t bound
@@ -92,27 +93,24 @@ module _ {A : Type 0} {o : Ops A} (F : Field o) where
             ],
       )
 
-  divide : (g : ℕ → A) (k : ℕ) → Degree o g k → (n : ℕ) (f : ℕ → A) → Below o f n → Remainder o f g k
-  divide g k e n f b = go n f b
-    where
-      short : (f : ℕ → A) → Below o f k → Remainder o f g k
-      short f b = record { t = series o .zero; bound = 0; below = below-zero o; less = rw (nothing lˢ f g) b }
+  short : (f g : ℕ → A) (k : ℕ) → Below o f k → Reduction o f g k
+  short f g k b = record { t = series o .zero; bound = 0; below = below-zero o; less = rw (nothing lˢ f g) b }
 
-      go : (n : ℕ) (f : ℕ → A) → Below o f n → Remainder o f g k
-      go zero f b = short f (λ j h. b j (omega arith))
-      go (suc n) f b = elim (decLe k n) [
-        | no q ↦ short f (λ j h. b j (omega arith))
-        | yes q ↦
-            let c = lead f g n k q b e in
-            let s = monomial o (c .0) (n - k) in
-            let r = go n (f +ˢ s *ˢ g) (c .1) in
-            record {
-              t = s +ˢ r .t;
-              bound = suc (n - k) + r .bound;
-              below = below-add (l .semi) (below-monomial o (c .0) (n - k)) (r .below);
-              less = rw (twice lˢ f g s (r .t)) at (r .less);
-            }
-      ]
+  divide : (g : ℕ → A) (k : ℕ) → Degree o g k → (n : ℕ) (f : ℕ → A) → Below o f n → Reduction o f g k
+  divide g k e zero f b = short f g k (λ j h. b j (omega arith))
+  divide g k e (suc n) f b = elim (decLe k n) [
+    | no q ↦ short f g k (λ j h. b j (omega arith))
+    | yes q ↦
+        let c = lead f g n k q b e in
+        let s = monomial o (c .0) (n - k) in
+        let r = divide g k e n (f +ˢ s *ˢ g) (c .1) in
+        record {
+          t = s +ˢ r .t;
+          bound = suc (n - k) + r .bound;
+          below = below-add (l .semi) (below-monomial o (c .0) (n - k)) (r .below);
+          less = rw (twice lˢ f g s (r .t)) at (r .less);
+        }
+  ]
 
   -- where g is zero
   bezout-zero : (f g : ℕ → A) (n : ℕ) → Below o f n → ((j : ℕ) → g j ≡ o .zero) → Bezout o f g ⊎ Shared o f g
@@ -140,7 +138,7 @@ module _ {A : Type 0} {o : Ops A} (F : Field o) where
       by (inr (suc m, e)) = inr (record { divisor = f; top = suc m; some = omega arith; has-degree = e; left = divides-self (l .semi) f; right = divides-zero (l .semi) z f })
 
   -- from g and the remainder to f and g
-  back-up : {f g : ℕ → A} {k : ℕ} (r : Remainder o f g k) → Bezout o g (f +ˢ r .t *ˢ g) ⊎ Shared o g (f +ˢ r .t *ˢ g) → Bezout o f g ⊎ Shared o f g
+  back-up : {f g : ℕ → A} {k : ℕ} (r : Reduction o f g k) → Bezout o g (f +ˢ r .t *ˢ g) ⊎ Shared o g (f +ˢ r .t *ˢ g) → Bezout o f g ⊎ Shared o f g
   back-up {f} {g} r (inl z) = inl (record {
     u = z .v;
     v = z .u +ˢ z .v *ˢ r .t;
@@ -159,30 +157,26 @@ module _ {A : Type 0} {o : Ops A} (F : Field o) where
     right = z .left;
   })
 
-  bezout-by : (fuel : ℕ) (f g : ℕ → A) (n m : ℕ) → m ≤ fuel → Below o f n → Below o g m → Bezout o f g ⊎ Shared o f g
-  bezout-by zero f g n m h b c = bezout-zero f g n b (λ j. c j (omega arith))
-  bezout-by (suc fuel) f g n m h b c = elim (degree F g m c) [
+  pub bezout-or-shared : (m : ℕ) (f g : ℕ → A) (n : ℕ) → Below o f n → Below o g m → Bezout o f g ⊎ Shared o f g
+  bezout-or-shared = strong (λ m. (f g : ℕ → A) (n : ℕ) → Below o f n → Below o g m → Bezout o f g ⊎ Shared o f g) (λ m ih f g n b c. elim (degree F g m c) [
     | inl z ↦ bezout-zero f g n b z
     | inr (k, e) ↦
         let inside : k < m = elim (decLe m k) [ yes q ↦ absurd (e .top (c k q)) | no q ↦ omega arith ] in
         let r = divide g k e n f b in
-        back-up r (bezout-by fuel g (f +ˢ r .t *ˢ g) (suc k) k (omega arith) (e .above) (r .less))
-  ]
-
-  pub bezout-or-shared : (f g : ℕ → A) (n m : ℕ) → Below o f n → Below o g m → Bezout o f g ⊎ Shared o f g
-  bezout-or-shared f g n m b c = bezout-by m f g n m (omega arith) b c
+        back-up r (ih k inside g (f +ˢ r .t *ˢ g) (suc k) (e .above) (r .less))
+  ])
 
   shared-not : {f g : ℕ → A} → Shared o f g → Coprime o f g → ⊥
   shared-not z = not-coprime-by-divisor (z .some) (z .has-degree) (z .left) (z .right)
 
   pub coprime-bezout : {f g : ℕ → A} {n m : ℕ} → Below o f n → Below o g m → Coprime o f g ↔ Bezout o f g
   coprime-bezout {f} {g} {n} {m} b c = (
-    λ h. ⊎-elim (λ z. z) (λ z. absurd (shared-not z h)) (bezout-or-shared f g n m b c),
+    λ h. ⊎-elim (λ z. z) (λ z. absurd (shared-not z h)) (bezout-or-shared m f g n b c),
     λ z. coprime-by-bezout F (z .u-below) (z .v-below) (z .one),
   )
 
   pub decide-coprime : {f g : ℕ → A} {n m : ℕ} → Below o f n → Below o g m → Dec (Coprime o f g)
-  decide-coprime {f} {g} {n} {m} b c = ⊎-elim (λ z. yes (coprime-bezout b c .1 z)) (λ z. no (shared-not z)) (bezout-or-shared f g n m b c)
+  decide-coprime {f} {g} {n} {m} b c = ⊎-elim (λ z. yes (coprime-bezout b c .1 z)) (λ z. no (shared-not z)) (bezout-or-shared m f g n b c)
 
 -- the mark can be decided
 pub decide-simple : {p : ℕ} → Prime p → (c : List ℕ) → Dec (Simple p c)

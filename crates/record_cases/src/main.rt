@@ -2,6 +2,11 @@
 use records::Written;
 ghost use Prim.Native.Nat.{_≤_};
 
+// One number more than a line of a job or an answer holds.
+const MANY_NUMBERS: usize = limits::MOST_NUMBERS + 1;
+
+const MANY_COEFFICIENTS: usize = limits::MOST_PLACEMENTS + 1;
+
 fn say(text: &[u8]) {
     io::write_all(1, text);
 }
@@ -102,17 +107,17 @@ fn job_in(case: usize, text: &[u8], cs: &mut [u32], ws: &mut [i32]) {
 
 // The same with slices of c and w words lent.
 fn job_lent(case: usize, text: &[u8], c: usize, w: usize) {
-    let mut cs = [7u32; 65];
-    let mut ws = [7i32; 65];
-    if c <= 65 {
-        if w <= 65 {
+    let mut cs = [7u32; MANY_NUMBERS];
+    let mut ws = [7i32; MANY_NUMBERS];
+    if c <= MANY_NUMBERS {
+        if w <= MANY_NUMBERS {
             job_in(case, text, &mut cs[0..c], &mut ws[0..w]);
         }
     }
 }
 
 fn job(case: usize, text: &[u8]) {
-    job_lent(case, text, 65, 65);
+    job_lent(case, text, MANY_NUMBERS, MANY_NUMBERS);
 }
 
 // The same for an answer, with its mark as 1 or 0.
@@ -138,14 +143,14 @@ fn answer_in(case: usize, text: &[u8], cs: &mut [u32]) {
 }
 
 fn answer_lent(case: usize, text: &[u8], c: usize) {
-    let mut cs = [7u32; 1025];
-    if c <= 1025 {
+    let mut cs = [7u32; MANY_COEFFICIENTS];
+    if c <= MANY_COEFFICIENTS {
         answer_in(case, text, &mut cs[0..c]);
     }
 }
 
 fn answer(case: usize, text: &[u8]) {
-    answer_lent(case, text, 1025);
+    answer_lent(case, text, MANY_COEFFICIENTS);
 }
 
 // Copies the bytes to the place, as far as there is room, and answers the place behind them.
@@ -340,7 +345,7 @@ fn written_jobs() {
     let coeffs = [0u32, 0, 0, 256];
     let weights = [1i32, -1];
     let none = [0u32; 0];
-    let many = [0u32; 65];
+    let many = [0u32; MANY_NUMBERS];
     let large = [1000i32];
     // three bytes more
     put_job(1, &coeffs, &weights, 54);
@@ -359,7 +364,7 @@ fn written_jobs() {
 fn written_answers() {
     let coeffs = [0u32, 0, 0, 4, 0, 0];
     let none = [0u32; 0];
-    let many = [0u32; 1025];
+    let many = [0u32; MANY_COEFFICIENTS];
     // three bytes more
     put_answer(1, true, &coeffs, 54);
     // exactly long enough

@@ -1,29 +1,36 @@
--- A copy's loop: after i items the front is the source's and the rest as it was.
-use Prim.Native.Nat.{ℕ, suc, _+_, _≤_, _<_}
-use mathlib.Core.Path.{_≡_, sym, _∙_, ap}
-use mathlib.Core.List.{List, _++_}
+-- A copy's loop: after i items the front is the source's and the rest as it was. An item with a sign is read by its bits.
+use Prim.Native.Nat.{ℕ, _+_, _≤_, _<_}
+use mathlib.Core.Path.{_≡_, refl, _∙_}
+use mathlib.Core.List.{List}
 use native.Mathlib.Omega.{arith}
+use native.Mathlib.Nat.{zero-add, le-antisymm}
 use native.Mathlib.Numerals.{add-one}
 use lib.IntN.{ℤ, pos}
-use lib.ListN.{length, getD, take, drop, set}
-use lib.Seq.{drop-cons, length-take-le, take-suc, set-at, append-snoc}
+use lib.ListN.{length, getD, set, length-set}
+use lib.Seq.{paste-suc}
 use mir.Syntax.{w32}
 use mir.Val.{SFits, toZ, ofZ}
 use mir.ValLaws.{toZ-ofZ}
+use Rattle.records.specs.Put.{CopiedOver}
 
-module _ {A : Type 0} where
-  pub copied : (src dst₀ dst : List A) (i n : ℕ) (d : A) → i < n → n ≤ length src → n ≤ length dst₀ → dst ≡ take i src ++ drop i dst₀ →
-      set dst i (getD src i d) ≡ take (i + 1) src ++ drop (i + 1) dst₀
-  copied src dst₀ dst i n d h k l e =
-      rw (e, drop-cons dst₀ i d (omega arith), add-one) (set-at (take i src) (getD dst₀ i d) (drop (suc i) dst₀) (getD src i d) i (length-take-le i src (omega arith))
-      ∙ sym (append-snoc (take i src) (getD src i d) (drop (suc i) dst₀))
-      ∙ ap (λ (l : List A). l ++ drop (suc i) dst₀) (sym (take-suc src i d (omega arith))))
+pub record Copying {A : Type 0} (src : List A) (n : ℕ) (dst₀ dst : List A) (i : ℕ) : Type 0 where
+  pub count : i ≤ n
+  pub room : length dst ≡ length dst₀
+  pub copied : CopiedOver src i dst₀ dst
 
-  pub copied-all : (src dst₀ dst : List A) (i n : ℕ) → i ≤ n → n ≤ i → dst ≡ take i src ++ drop i dst₀ → dst ≡ take n src ++ drop n dst₀
-  copied-all src dst₀ dst i n h k e =
-      let z : i ≡ n = omega arith in
-      rw z at e
+module _ {A : Type 0} {src dst₀ dst : List A} {n i : ℕ} (w : Copying src n dst₀ dst i) where
+  pub copied-more : (d : A) {x : A} → x ≡ getD src i d → i < n → n ≤ length src → n ≤ length dst₀ → Copying src n dst₀ (set dst i x) (i + 1)
+  copied-more d {x} e h k l = record {
+    count = omega arith;
+    room = length-set dst i x ∙ w .room;
+    copied = record { is = rw (e, w .copied .is, add-one) (simp zero-add at (paste-suc dst₀ 0 src i d (omega arith) (omega arith))) };
+  }
 
-pub copied-signed : (src dst₀ dst : List ℤ) (i n : ℕ) → SFits w32 (getD src i (pos 0)) → i < n → n ≤ length src → n ≤ length dst₀ → dst ≡ take i src ++ drop i dst₀ →
-    set dst i (toZ w32 (ofZ w32 (getD src i (pos 0)))) ≡ take (i + 1) src ++ drop (i + 1) dst₀
-copied-signed src dst₀ dst i n f h k l e = rw (toZ-ofZ w32 _ f) (copied src dst₀ dst i n (pos 0) h k l e)
+  pub copied-all : n ≤ i → CopiedOver src n dst₀ dst
+  copied-all h = rw (le-antisymm (w .count) h) at (w .copied)
+
+pub copied-none : {A : Type 0} (src : List A) (n : ℕ) (dst : List A) → Copying src n dst dst 0
+copied-none src n dst = record { count = omega arith; room = refl; copied = record { is = refl } }
+
+pub item-bits : (src : List ℤ) (i : ℕ) → SFits w32 (getD src i (pos 0)) → toZ w32 (ofZ w32 (getD src i (pos 0))) ≡ getD src i (pos 0)
+item-bits src i f = toZ-ofZ w32 _ f

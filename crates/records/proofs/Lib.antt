@@ -1,4 +1,4 @@
 pub mod Copies
 pub mod Parses
 pub mod Outcomes
-pub mod Writing
+pub mod Values

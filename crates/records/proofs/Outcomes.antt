@@ -1,97 +1,89 @@
--- From what a function found to its promise: each way out gives one row, and rules the others out.
-use Prim.Native.Nat.{ℕ, _≤_, _<_}
+-- From what a function found to its promise: each way out gives one row, and rules the others out. A refused reader has counts of zero,
+-- so what it copied is nothing.
+use Prim.Native.Nat.{ℕ, _≤_}
 use mathlib.Core.Path.{_≡_, refl, sym, _∙_, ap}
 use mathlib.Core.Option.{Option, some, none}
-use mathlib.Core.List.{List, _++_}
+use mathlib.Core.List.{List}
 use native.Mathlib.Omega.{arith}
-use native.Mathlib.Nat.{zero-add}
 use lib.IntN.{ℤ}
-use lib.ListN.{length, take, drop, length-take}
-use lib.Seq.{sets-eq}
-use Rattle.decimal.specs.Written.{Wrote}
-use Rattle.decimal.proofs.SignedSteps.{room}
+use lib.ListN.{length, take, drop, length-append, length-drop}
+use lib.Seq.{take-append-seam}
+use Rattle.limits.specs.Limits.{most-numbers, most-placements}
 use Rattle.records.specs.declared.AnswerRead.{AnswerRead}
 use Rattle.records.specs.declared.JobRead.{JobRead}
+use Rattle.records.specs.declared.Written.{Written}
 use Rattle.records.specs.Records.{Answer, Job}
-use Rattle.records.specs.Promises.{AnswerRoom, JobRoom, Reads, ReadsAnswer, ReadsJob, Writes, answer-filled, answer-read, job-filled, job-read, no-answer, no-job, over}
-use Rattle.records.specs.Scan.{AnswerParsed, JobParsed, read-answer, read-job}
+use Rattle.records.specs.Put.{CopiedOver, Put, not-written, over}
+use Rattle.records.specs.Kinds.{Kind, Reads, Writes}
+use Rattle.records.specs.Promises.{ReadsAnswer, ReadsJob, answer-kind, job-kind}
+use Rattle.records.specs.Scan.{Parsed, read-answer, read-job}
 use Rattle.records.specs.Laws.{Whole, answers, jobs, never-some}
 
 -- ---- a reader
-module _ {X : Type 0} {Holds : X → Type 0} {text : X → List ℕ} {scan : List ℕ → Option X} (W : Whole Holds text scan)
-    {S R : Type 0} (Room : S → Type 0) (refused : ℕ → R) (read : X → R) (filled : X → S → S) (t : List ℕ) (lent : S) (r : R) where
-  pub too-short : (Room lent → ⊥) → r ≡ refused 13 → Reads Holds text Room refused read filled t lent r lent
-  too-short n e = record { row-13 = λ _. (e, refl); row-1 = λ o. absurd (n o); success = λ o. absurd (n o) }
+module _ (k : Kind) {t : List ℕ} {lent : k .Lent} {r : k .Answer} where
+  pub too-short : (k .Room lent → ⊥) → r ≡ k .refused 13 → Reads k t lent r lent
+  too-short n e = record { row-13 = λ _. (e, refl); no-record = λ o. absurd (n o); success = λ o. absurd (n o) }
 
-  module _ (lent′ : S) (room : Room lent) where
-    pub no-record : scan t ≡ none → r ≡ refused 1 → lent′ ≡ lent → Reads Holds text Room refused read filled t lent r lent′
-    no-record e f g = record {
+  module _ {scan : List ℕ → Option (k .Values)} (W : Whole (k .Holds) (k .text) scan) {arrays lent′ : k .Lent} (room : k .Room lent) (p : Parsed k (scan t) r arrays)
+      (copied : (v : k .Values) → scan t ≡ some v → lent′ ≡ k .filled v lent) (kept : scan t ≡ none → lent′ ≡ lent) where
+    read-by : (o : Option (k .Values)) → scan t ≡ o → Reads k t lent r lent′
+    read-by none e = record {
       row-13 = λ n. absurd (n room);
-      row-1 = λ _ _. (f, g);
-      success = λ _ v o p. absurd (never-some (sym e ∙ ap scan p ∙ W .complete v o));
+      no-record = λ _ _. (p .other e, kept e);
+      success = λ _ v o q. absurd (never-some (sym e ∙ ap scan q ∙ W .complete v o));
+    }
+    read-by (some x) e = record {
+      row-13 = λ n. absurd (n room);
+      no-record = λ _ n. absurd (n (x, W .sound t x e .0, W .sound t x e .1));
+      success = λ _ v o q. let f = ap scan q ∙ W .complete v o in (p .values v f .0, copied v f);
     }
 
-    pub a-record : (x : X) → scan t ≡ some x → r ≡ read x → lent′ ≡ filled x lent → Reads Holds text Room refused read filled t lent r lent′
-    a-record x e f g = record {
-      row-13 = λ n. absurd (n room);
-      row-1 = λ _ n. absurd (n x (W .sound t x e .0) (W .sound t x e .1));
-      success = λ _ v o p.
-          let k : some x ≡ some v = sym e ∙ ap scan p ∙ W .complete v o in
-          let q : x ≡ v = cc in
-          rw (← q) (f, g);
-    }
+    read-whole : Reads k t lent r lent′
+    read-whole = read-by (scan t) refl
 
--- ---- the job reader: a refusal has counts of zero, so what was copied is what was there
-job-counts-by : (o : Option Job) (r : JobRead) (cs : List ℕ) (ws : List ℤ) → JobParsed o r cs ws → (r .degree ≤ length cs) × (r .weights ≤ length ws)
-job-counts-by (some j) r cs ws h = rw (h .0) (omega (arith, ap length (h .1), length-take (length (j .coeffs)) cs), omega (arith, ap length (h .2), length-take (length (j .weights)) ws))
-job-counts-by none r cs ws h = rw h (omega arith)
+-- what was copied: the values stand at the front of the array, or nothing was
+front-copied : {A : Type 0} (xs : List A) {array lent lent′ : List A} {n : ℕ} → CopiedOver array n lent lent′ → n ≡ length xs → over xs array ≡ array → lent′ ≡ over xs lent
+front-copied xs {array} {lent} f e g =
+    let front : take (length xs) array ≡ xs = ap (take (length xs)) (sym g) ∙ take-append-seam xs (drop (length xs) array) in
+    f .is ∙ rw (e, front)
 
-pub job-counts : (t : List ℕ) (r : JobRead) (cs : List ℕ) (ws : List ℤ) → JobParsed (read-job t) r cs ws → (r .degree ≤ length cs) × (r .weights ≤ length ws)
-job-counts t r cs ws h = job-counts-by (read-job t) r cs ws h
+none-copied : {A : Type 0} {array lent lent′ : List A} {n : ℕ} → CopiedOver array n lent lent′ → n ≡ 0 → lent′ ≡ lent
+none-copied f e = f .is ∙ rw e
 
-module _ (t : List ℕ) (r : JobRead) (cs c₀ c₁ : List ℕ) (ws w₀ w₁ : List ℤ) (room : JobRoom (c₀, w₀))
-    (f : c₁ ≡ take (r .degree) cs ++ drop (r .degree) c₀) (g : w₁ ≡ take (r .weights) ws ++ drop (r .weights) w₀) where
-  job-copied-by : (o : Option Job) → read-job t ≡ o → JobParsed o r cs ws → ReadsJob t (c₀, w₀) r (c₁, w₁)
-  job-copied-by (some j) e h =
-      let p : c₁ ≡ over (j .coeffs) c₀ = f ∙ rw (h .0, h .1) in
-      let q : w₁ ≡ over (j .weights) w₀ = g ∙ rw (h .0, h .2) in
-      a-record jobs JobRoom no-job job-read job-filled t (c₀, w₀) r (c₁, w₁) room j e (h .0) (rw (p, q))
-  job-copied-by none e h =
-      let p : c₁ ≡ c₀ = f ∙ rw h in
-      let q : w₁ ≡ w₀ = g ∙ rw h in
-      no-record jobs JobRoom no-job job-read job-filled t (c₀, w₀) r (c₁, w₁) room e h (rw (p, q))
+front-fits : {A : Type 0} (xs array : List A) → over xs array ≡ array → length xs ≤ length array
+front-fits xs array e = omega (arith, ap length e, length-append xs (drop (length xs) array), length-drop (length xs) array)
 
-  pub job-copied : JobParsed (read-job t) r cs ws → ReadsJob t (c₀, w₀) r (c₁, w₁)
-  job-copied h = job-copied-by (read-job t) refl h
+-- ---- the job reader
+pub job-counts : {r : JobRead} {cs : List ℕ} {ws : List ℤ} (found : Option Job) → Parsed job-kind found r (cs, ws) →
+    (r .degree ≤ length cs) × (r .weights ≤ length ws)
+job-counts {cs = cs} {ws} (some j) p =
+    let (e, f) = p .values j refl in
+    rw e (front-fits (j .coeffs) cs (ap (λ l. l .0) f), front-fits (j .weights) ws (ap (λ l. l .1) f))
+job-counts none p = rw (p .other refl) (omega arith)
+
+module _ (t : List ℕ) {r : JobRead} {cs : List ℕ} {ws : List ℤ} (p : Parsed job-kind (read-job t) r (cs, ws)) where
+  pub job-copied : {c₀ c₁ : List ℕ} {w₀ w₁ : List ℤ} → most-numbers ≤ length c₀ → most-numbers ≤ length w₀ → CopiedOver cs (r .degree) c₀ c₁ → CopiedOver ws (r .weights) w₀ w₁ →
+      ReadsJob t (c₀, w₀) r (c₁, w₁)
+  job-copied m n f g = read-whole job-kind jobs (m, n) p
+      (λ j e. let a = p .values j e in
+      rw (front-copied (j .coeffs) f (ap (λ x. x .degree) (a .0)) (ap (λ l. l .0) (a .1)), front-copied (j .weights) g (ap (λ x. x .weights) (a .0)) (ap (λ l. l .1) (a .1))))
+      (λ e. let a = p .other e in rw (none-copied f (ap (λ x. x .degree) a), none-copied g (ap (λ x. x .weights) a)))
 
 -- ---- the answer reader
-answer-counts-by : (o : Option Answer) (r : AnswerRead) (cs : List ℕ) → AnswerParsed o r cs → r .degree ≤ length cs
-answer-counts-by (some a) r cs h = rw (h .0) (omega (arith, ap length (h .1), length-take (length (a .coeffs)) cs))
-answer-counts-by none r cs h = rw h (omega arith)
+pub answer-count : {r : AnswerRead} {cs : List ℕ} (found : Option Answer) → Parsed answer-kind found r cs → r .degree ≤ length cs
+answer-count {cs = cs} (some v) p = let (e, f) = p .values v refl in rw e (front-fits (v .coeffs) cs f)
+answer-count none p = rw (p .other refl) (omega arith)
 
-pub answer-counts : (t : List ℕ) (r : AnswerRead) (cs : List ℕ) → AnswerParsed (read-answer t) r cs → r .degree ≤ length cs
-answer-counts t r cs h = answer-counts-by (read-answer t) r cs h
-
-module _ (t : List ℕ) (r : AnswerRead) (cs c₀ c₁ : List ℕ) (room : AnswerRoom c₀) (f : c₁ ≡ take (r .degree) cs ++ drop (r .degree) c₀) where
-  answer-copied-by : (o : Option Answer) → read-answer t ≡ o → AnswerParsed o r cs → ReadsAnswer t c₀ r c₁
-  answer-copied-by (some a) e h = a-record answers AnswerRoom no-answer answer-read answer-filled t c₀ r c₁ room a e (h .0) (f ∙ rw (h .0, h .1))
-  answer-copied-by none e h = no-record answers AnswerRoom no-answer answer-read answer-filled t c₀ r c₁ room e h (f ∙ rw h)
-
-  pub answer-copied : AnswerParsed (read-answer t) r cs → ReadsAnswer t c₀ r c₁
-  answer-copied h = answer-copied-by (read-answer t) refl h
+module _ (t : List ℕ) {r : AnswerRead} {cs : List ℕ} (p : Parsed answer-kind (read-answer t) r cs) where
+  pub answer-copied : {c₀ c₁ : List ℕ} → most-placements ≤ length c₀ → CopiedOver cs (r .degree) c₀ c₁ → ReadsAnswer t c₀ r c₁
+  answer-copied m f = read-whole answer-kind answers m p
+      (λ v e. let a = p .values v e in front-copied (v .coeffs) f (ap (λ x. x .degree) (a .0)) (a .1))
+      (λ e. none-copied f (ap (λ x. x .degree) (p .other e)))
 
 -- ---- a writer
-module _ {X : Type 0} (Holds : X → Type 0) (text : X → List ℕ) (v : X) (out : List ℕ) where
-  pub not-held : (Holds v → ⊥) → Writes Holds text v out (record { code = 15; len = 0 }) out
-  not-held n = record { row-15 = λ _. (refl, refl); row-14 = λ h. absurd (n h); success = λ h. absurd (n h) }
+module _ (k : Kind) {v : k .Values} {out : List ℕ} where
+  pub not-held : (k .Holds v → ⊥) → Writes k v out (not-written 15) out
+  not-held n = record { row-15 = λ _. (refl, refl); put = λ h. absurd (n h) }
 
-  module _ (held : Holds v) (n : ℕ) (g : n ≡ length (text v)) where
-    pub no-room : length out < n → Writes Holds text v out (record { code = 14; len = 0 }) out
-    no-room l = record { row-15 = λ h. absurd (h held); row-14 = λ _ _. (refl, refl); success = λ _ m. absurd (omega arith) }
-
-    pub written : (out′ : List ℕ) (k : ℕ) → n ≤ length out → Wrote (text v) out 0 out′ k → Writes Holds text v out (record { code = 0; len = k }) out′
-    written out′ k l w = record {
-      row-15 = λ h. absurd (h held);
-      row-14 = λ _ m. absurd (omega arith);
-      success = λ _ _. (rw (w .place, zero-add), w .text ∙ sets-eq (text v) out 0 (omega arith) ∙ rw zero-add);
-    }
+  pub put-held : {r : Written} {out′ : List ℕ} → k .Holds v → Put (k .text v) out r out′ → Writes k v out r out′
+  put-held h p = record { row-15 = λ n. absurd (n h); put = λ _. p }

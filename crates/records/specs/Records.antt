@@ -4,8 +4,9 @@ use mathlib.Core.Bool.{Bool}
 use mathlib.Core.List.{List, _++_}
 use lib.IntN.{ℤ}
 use lib.ListN.{length}
+use Rattle.limits.specs.Limits.{most-numbers, most-placements}
 use Rattle.decimal.specs.Spelling.{Small, Word, decimal, signed}
-use Rattle.lines.specs.Lines.{Counted, bytes, head-text, list-line, mark-text}
+use Rattle.lines.specs.Lines.{OneTo, bytes, head-text, list-line, mark-text}
 
 -- ---- the values. The degree is none of its own: it "must equal the count of coefficients"
 pub record Job : Type 0 where
@@ -27,13 +28,13 @@ answer modulus simple coeffs = record { modulus = modulus; simple = simple; coef
 -- ---- which a record can hold: `coeffs=` (1 to 64 numbers), `weights=` (1 to 64 numbers, each -999 to 999)
 pub record JobHolds (j : Job) : Type 0 where
   pub modulus : Word (j .modulus)
-  pub coeffs : Counted Word 64 (j .coeffs)
-  pub weights : Counted Small 64 (j .weights)
+  pub coeffs : OneTo most-numbers Word (j .coeffs)
+  pub weights : OneTo most-numbers Small (j .weights)
 
 -- `coeffs=` (1 to 1,024 numbers)
 pub record AnswerHolds (a : Answer) : Type 0 where
   pub modulus : Word (a .modulus)
-  pub coeffs : Counted Word 1024 (a .coeffs)
+  pub coeffs : OneTo most-placements Word (a .coeffs)
 
 -- ---- the lines
 -- "A job has four lines"

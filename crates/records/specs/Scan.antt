@@ -6,54 +6,49 @@ use mathlib.Core.Option.{Option, some, none}
 use mathlib.Core.List.{List}
 use lib.Dec.{eqb}
 use lib.IntN.{ℤ}
-use lib.ListN.{length, take}
-use Rattle.decimal.specs.Scan.{Got, bad, got, number, read-list, signed-number}
+use lib.ListN.{length}
+use Rattle.limits.specs.Limits.{most-numbers, most-placements}
+use Rattle.decimal.specs.Scan.{Got, got, number, read-list, refused, signed-number}
 use Rattle.lines.specs.Lines.{bytes}
 use Rattle.lines.specs.Scan.{both, head, keyed, mark}
-use Rattle.records.specs.declared.AnswerRead.{AnswerRead}
-use Rattle.records.specs.declared.JobRead.{JobRead}
 use Rattle.records.specs.Records.{Answer, Job, answer, job}
-use Rattle.records.specs.Promises.{answer-read, job-read, no-answer, no-job}
+use Rattle.records.specs.Kinds.{Kind}
 
 -- ---- the lines
 unfoldable pub coeffs-line : ℕ → List ℕ → Got (List ℕ)
 coeffs-line most = keyed (bytes "coeffs=") (read-list number most)
 
 unfoldable pub weights-line : List ℕ → Got (List ℤ)
-weights-line = keyed (bytes "weights=") (read-list signed-number 64)
+weights-line = keyed (bytes "weights=") (read-list signed-number most-numbers)
 
--- ---- a record: its values are made of the modulus and of what the two last lines hold
-module _ {A B X : Type 0} (start : List ℕ → Got (ℕ × ℕ)) (first : List ℕ → Got A) (second : List ℕ → Got B) (count : A × B → ℕ) (make : ℕ → A × B → X) where
+-- ---- a record: its two last lines, the count that the degree must equal, and the values made of the modulus and of these lines
+pub record Format (A B X : Type 0) : Type 0 where
+  pub first : List ℕ → Got A
+  pub second : List ℕ → Got B
+  pub count : A × B → ℕ
+  pub make : ℕ → A × B → X
+
+module _ {A B X : Type 0} (F : Format A B X) where
   abbrev pub finish : Got ((ℕ × ℕ) × (A × B)) → ℕ → Option X
-  finish (got v i) n = cond (eqb i n) (cond (eqb (v .0 .1) (count (v .1))) (some (make (v .0 .0) (v .1))) none) none
-  finish bad n = none
+  finish (got v i) n = cond (eqb i n) (cond (eqb (v .0 .1) (F .count (v .1))) (some (F .make (v .0 .0) (v .1))) none) none
+  finish (refused m) n = none
 
   abbrev pub read-record : List ℕ → Option X
-  read-record t = finish (both start (both first second) t) (length t)
+  read-record t = finish (both head (both (F .first) (F .second)) t) (length t)
 
-abbrev pub job-count : List ℕ × List ℤ → ℕ
-job-count v = length (v .0)
-
-abbrev pub job-made : ℕ → List ℕ × List ℤ → Job
-job-made m v = job m (v .0) (v .1)
+abbrev pub job-format : Format (List ℕ) (List ℤ) Job
+job-format = record { first = coeffs-line most-numbers; second = weights-line; count = λ v. length (v .0); make = λ m v. job m (v .0) (v .1) }
 
 unfoldable pub read-job : List ℕ → Option Job
-read-job = read-record head (coeffs-line 64) weights-line job-count job-made
+read-job = read-record job-format
 
-abbrev pub answer-count : Bool × List ℕ → ℕ
-answer-count v = length (v .1)
-
-abbrev pub answer-made : ℕ → Bool × List ℕ → Answer
-answer-made m v = answer m (v .0) (v .1)
+abbrev pub answer-format : Format Bool (List ℕ) Answer
+answer-format = record { first = mark; second = coeffs-line most-placements; count = λ v. length (v .1); make = λ m v. answer m (v .0) (v .1) }
 
 unfoldable pub read-answer : List ℕ → Option Answer
-read-answer = read-record head mark (coeffs-line 1024) answer-count answer-made
+read-answer = read-record answer-format
 
--- ---- the code's answers for these
-abbrev pub JobParsed : Option Job → JobRead → List ℕ → List ℤ → Type 0
-JobParsed (some j) r cs ws = (r ≡ job-read j) × (take (length (j .coeffs)) cs ≡ j .coeffs) × (take (length (j .weights)) ws ≡ j .weights)
-JobParsed none r cs ws = r ≡ no-job 1
-
-abbrev pub AnswerParsed : Option Answer → AnswerRead → List ℕ → Type 0
-AnswerParsed (some a) r cs = (r ≡ answer-read a) × (take (length (a .coeffs)) cs ≡ a .coeffs)
-AnswerParsed none r cs = r ≡ no-answer 1
+-- ---- what the code answers for what is found: the values, which stand at the fronts of the arrays, or the number for any other text
+pub record Parsed (k : Kind) (found : Option (k .Values)) (r : k .Answer) (arrays : k .Lent) : Type 0 where
+  pub values : (v : k .Values) → found ≡ some v → (r ≡ k .read v) × (k .filled v arrays ≡ arrays)
+  pub other : found ≡ none → r ≡ k .refused (k .number)

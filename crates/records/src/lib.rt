@@ -1,14 +1,15 @@
 // The two records of document 01, read and written. A record has one spelling.
 ghost use mathlib.Core.Path.{_≡_};
 ghost use mathlib.Core.Bool.{true};
-ghost use mathlib.Core.List.{_++_};
 ghost use mathlib.Core.Logic.{_↔_};
 ghost use Prim.Native.Nat.{_+_, _≤_};
-ghost use lib.ListN.{length, take, drop};
+ghost use lib.ListN.{length};
 ghost use Rattle.decimal.specs.Written.{Wrote};
 ghost use Rattle.records.specs.Records.{JobHolds, AnswerHolds, job, answer, job-text, answer-text};
-ghost use Rattle.records.specs.Promises.{ReadsJob, ReadsAnswer, WritesJob, WritesAnswer, no-job, no-answer};
-ghost use Rattle.records.specs.Scan.{read-job, read-answer, JobParsed, AnswerParsed};
+ghost use Rattle.limits.specs.Limits.{most-numbers, most-placements};
+ghost use Rattle.records.specs.Put.{CopiedOver};
+ghost use Rattle.records.specs.Promises.{ReadsJob, ReadsAnswer, WritesJob, WritesAnswer, job-kind, answer-kind, no-job, no-answer};
+ghost use Rattle.records.specs.Scan.{read-job, read-answer, Parsed};
 use decimal::Cursor;
 use decimal::Listed;
 use lines::Head;
@@ -61,7 +62,7 @@ fn refused_answer(code: u32) -> AnswerRead
 // The first n of src over the first n of dst.
 fn copy_words(src: &[u32], n: usize, dst: &mut [u32])
     requires { ⌜ (n ≤ length (now src)) × (n ≤ length (now dst)) ⌝ }
-    ensures { λ _. ⌜ now (dst .exit) ≡ take n (now (src .entry)) ++ drop n (now (dst .entry)) ⌝ }
+    ensures { λ _. ⌜ CopiedOver (now (src .entry)) n (now (dst .entry)) (now (dst .exit)) ⌝ }
 {
     let mut i: usize = 0;
     while i < n {
@@ -72,7 +73,7 @@ fn copy_words(src: &[u32], n: usize, dst: &mut [u32])
 
 fn copy_signeds(src: &[i32], n: usize, dst: &mut [i32])
     requires { ⌜ (n ≤ length (now src)) × (n ≤ length (now dst)) ⌝ }
-    ensures { λ _. ⌜ now (dst .exit) ≡ take n (now (src .entry)) ++ drop n (now (dst .entry)) ⌝ }
+    ensures { λ _. ⌜ CopiedOver (now (src .entry)) n (now (dst .entry)) (now (dst .exit)) ⌝ }
 {
     let mut i: usize = 0;
     while i < n {
@@ -83,8 +84,8 @@ fn copy_signeds(src: &[i32], n: usize, dst: &mut [i32])
 
 // The whole text as a job, whose lists go to the fronts of cs and ws; any other text leaves these in any state.
 fn parse_job(text: &[u8], cs: &mut [u32], ws: &mut [i32]) -> JobRead
-    requires { ⌜ (length (now cs) ≡ 64) × (length (now ws) ≡ 64) ⌝ }
-    ensures { λ r. ⌜ JobParsed (read-job (now (text .entry))) r (now (cs .exit)) (now (ws .exit)) ⌝ }
+    requires { ⌜ (length (now cs) ≡ most-numbers) × (length (now ws) ≡ most-numbers) ⌝ }
+    ensures { λ r. ⌜ Parsed job-kind (read-job (now (text .entry))) r (now (cs .exit), now (ws .exit)) ⌝ }
 {
     let Head::Of(modulus, degree, c) = lines::read_head(text) else {
         return refused_job(1);
@@ -118,14 +119,14 @@ fn parse_job(text: &[u8], cs: &mut [u32], ws: &mut [i32]) -> JobRead
 pub fn read_job(text: &[u8], coeffs: &mut [u32], weights: &mut [i32]) -> JobRead
     ensures { λ r. ⌜ ReadsJob (now (text .entry)) (now (coeffs .entry), now (weights .entry)) r (now (coeffs .exit), now (weights .exit)) ⌝ }
 {
-    if coeffs.len() < 64 {
+    if coeffs.len() < limits::MOST_NUMBERS {
         return refused_job(13);
     }
-    if weights.len() < 64 {
+    if weights.len() < limits::MOST_NUMBERS {
         return refused_job(13);
     }
-    let mut cs = [0u32; 64];
-    let mut ws = [0i32; 64];
+    let mut cs = [0u32; limits::MOST_NUMBERS];
+    let mut ws = [0i32; limits::MOST_NUMBERS];
     let r = parse_job(text, &mut cs, &mut ws);
     let n = r.degree;
     let m = r.weights;
@@ -136,8 +137,8 @@ pub fn read_job(text: &[u8], coeffs: &mut [u32], weights: &mut [i32]) -> JobRead
 
 // The whole text as an answer, whose coefficients go to the front of cs; any other text leaves it in any state.
 fn parse_answer(text: &[u8], cs: &mut [u32]) -> AnswerRead
-    requires { ⌜ length (now cs) ≡ 1024 ⌝ }
-    ensures { λ r. ⌜ AnswerParsed (read-answer (now (text .entry))) r (now (cs .exit)) ⌝ }
+    requires { ⌜ length (now cs) ≡ most-placements ⌝ }
+    ensures { λ r. ⌜ Parsed answer-kind (read-answer (now (text .entry))) r (now (cs .exit)) ⌝ }
 {
     let Head::Of(modulus, degree, c) = lines::read_head(text) else {
         return refused_answer(1);
@@ -171,10 +172,10 @@ fn parse_answer(text: &[u8], cs: &mut [u32]) -> AnswerRead
 pub fn read_answer(text: &[u8], coeffs: &mut [u32]) -> AnswerRead
     ensures { λ r. ⌜ ReadsAnswer (now (text .entry)) (now (coeffs .entry)) r (now (coeffs .exit)) ⌝ }
 {
-    if coeffs.len() < 1024 {
+    if coeffs.len() < limits::MOST_PLACEMENTS {
         return refused_answer(13);
     }
-    let mut cs = [0u32; 1024];
+    let mut cs = [0u32; limits::MOST_PLACEMENTS];
     let r = parse_answer(text, &mut cs);
     let count = r.degree;
     copy_words(&cs, count, coeffs);
@@ -190,13 +191,13 @@ fn job_holds(modulus: u32, coeffs: &[u32], weights: &[i32]) -> bool
     if n == 0 {
         return false;
     }
-    if 64 < n {
+    if limits::MOST_NUMBERS < n {
         return false;
     }
     if m == 0 {
         return false;
     }
-    if 64 < m {
+    if limits::MOST_NUMBERS < m {
         return false;
     }
     decimal::each_small(weights)
@@ -260,7 +261,7 @@ pub fn write_answer(modulus: u32, simple: bool, coeffs: &[u32], out: &mut [u8]) 
     if coeffs.len() == 0 {
         return Written { code: 15, len: 0 };
     }
-    if 1024 < coeffs.len() {
+    if limits::MOST_PLACEMENTS < coeffs.len() {
         return Written { code: 15, len: 0 };
     }
     let n = answer_len(modulus, simple, coeffs);

@@ -1,4 +1,1 @@
-pub mod Search
-pub mod Numbers
-pub mod Judging
 pub mod Kept

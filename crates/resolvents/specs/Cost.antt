@@ -5,37 +5,34 @@ use mathlib.Core.Bool.{Bool, true, false}
 use mathlib.Core.List.{List, [], _∷_}
 use Prim.Native.Nat.{ℕ}
 use native.Mathlib.Nat.{le-refl}
-use native.Mathlib.Decide.{ℕ-discrete}
 use native.Mathlib.Omega.{arith}
 use borrow.Author.Tests.{le-ltb}
 use lib.Dec.{ltb}
 use lib.IntN.{ℤ}
+use Rattle.limits.specs.Limits.{capacity}
+use Rattle.checks.specs.Checks.{first, Answers}
+use Rattle.checks.specs.Laws.{first-holds, first-passes, answers-decide}
 use Rattle.definition.specs.Cost.{lists}
-use Rattle.definition.specs.Refusals.{Call, weights, some-bad, bad-number, first, list-checks, list-refusal, refusal}
-use Rattle.definition.specs.Refusals.{modulus-checks, polynomial-checks, weight-checks, room-checks, divisor-checks, checks}
-use Rattle.definition.specs.Table.{first-passes, first-holds, weight-good, row-exactly, not-refused}
+use Rattle.refusals.specs.Refusals.{Call, weights, zero-or-above, some-bad, list-checks, list-refusal, refusal}
+use Rattle.refusals.specs.Refusals.{modulus-checks, degree-checks, coefficient-checks, weight-checks, number-checks, room-checks, divisor-checks, job-checks, call-checks, checks}
+use Rattle.refusals.specs.Reading.{weight-good, row-exactly, not-refused}
 use Rattle.resolvents.specs.declared.Cost.{Cost}
 use Rattle.resolvents.specs.Promise.{Exit, Promise}
 
 -- of r weights L: the number of row 6 or 8 and no lists, or 0 and the number of lists
-pub record Told (r : ℕ) (L : List ℤ) (t : Cost) : Type 0 where
-  pub code : t .code ≡ list-refusal r L
-  pub refused : (list-refusal r L ≡ 0 → ⊥) → t .lists ≡ 0
-  pub told : list-refusal r L ≡ 0 → t .lists ≡ lists L
+abbrev pub Told : ℕ → List ℤ → Cost → Type 0
+Told r L t = Answers (list-refusal r L) (t .code) (t .lists ≡ 0) (t .lists ≡ lists L)
 
 pub told-decides : (r : ℕ) (L : List ℤ) (t t' : Cost) → Told r L t → Told r L t' → t ≡ t'
-told-decides r L t t' a b = elim (ℕ-discrete (list-refusal r L) 0) [
-  | yes z ↦ same (a .told z ∙ sym (b .told z))
-  | no n ↦ same (a .refused n ∙ sym (b .refused n))
-]
+told-decides r L = answers-decide (λ t. t .code) (λ t. t .lists ≡ 0) (λ t. t .lists ≡ lists L) (λ n t t' k a b. same k (a ∙ sym b)) (λ z t t' k a b. same k (a ∙ sym b))
   where
-    same : t .lists ≡ t' .lists → t ≡ t'
-    same e = let k = a .code ∙ sym (b .code) in λ i. record { code = k i; lists = e i }
+    same : {t t' : Cost} → t .code ≡ t' .code → t .lists ≡ t' .lists → t ≡ t'
+    same k e = λ i. record { code = k i; lists = e i }
 
 -- of n = r positions row 7 never applies
 pub alone : (r : ℕ) (L : List ℤ) → first (weight-checks r r L) ≡ list-refusal r L
 unfolding weight-checks list-refusal list-checks
-alone r L = by (bad-number r)
+alone r L = by (zero-or-above capacity r)
   where
     by : (t : Bool) → first ((t, 6) ∷ (ltb r r, 7) ∷ (some-bad L, 8) ∷ []) ≡ first ((t, 6) ∷ (some-bad L, 8) ∷ [])
     by true = first-holds 6 _ refl ∙ sym (first-holds 6 _ refl)
@@ -47,9 +44,10 @@ module _ (c : Call) (e : Exit) (q : Promise c e) (t : Cost) (h : Told (c .r) (we
   pub answered-told : e .outcome .code ≡ 0 → (t .code ≡ 0) × (t .lists ≡ e .outcome .lists)
   answered-told k =
       let z : refusal c ≡ 0 = sym (q .code) ∙ k in
-      let g = not-refused c .0 z .list in
-      let none : list-refusal (c .r) (weights c) ≡ 0 = sym (alone (c .r) (weights c)) ∙ weight-good _ _ _ .1 (record { some = g .some; high = g .high; fits = le-refl _; each = g .each }) in
-      (h .code ∙ none, h .told none ∙ sym (q .done z .lists))
+      let g = not-refused c .0 z .good .job .list in
+      let none : list-refusal (c .r) (weights c) ≡ 0 =
+      sym (alone (c .r) (weights c)) ∙ weight-good _ _ _ .1 (record { some = g .some; high = g .high; fits = le-refl _; each = g .each }) in
+      (h .code ∙ none, h .done none ∙ sym (q .done z .lists))
 
   -- so no job with a list that is refused is answered
   pub never-answered : (t .code ≡ 0 → ⊥) → e .outcome .code ≡ 0 → ⊥
@@ -57,11 +55,11 @@ module _ (c : Call) (e : Exit) (q : Promise c e) (t : Cost) (h : Told (c .r) (we
 
   -- and a list that the entry refuses by row 6 or 8 is refused by that number
   pub refused-told-6 : e .outcome .code ≡ 6 → t .code ≡ 6
-  unfolding list-refusal list-checks checks modulus-checks polynomial-checks weight-checks room-checks divisor-checks
+  unfolding list-refusal list-checks checks call-checks job-checks modulus-checks degree-checks coefficient-checks weight-checks number-checks room-checks divisor-checks
   refused-told-6 k = h .code ∙ first-holds 6 _ (row-exactly c 4 (omega arith) .0 (sym (q .code) ∙ k) .0)
 
   pub refused-told-8 : e .outcome .code ≡ 8 → t .code ≡ 8
-  unfolding list-refusal list-checks checks modulus-checks polynomial-checks weight-checks room-checks divisor-checks
+  unfolding list-refusal list-checks checks call-checks job-checks modulus-checks degree-checks coefficient-checks weight-checks number-checks room-checks divisor-checks
   refused-told-8 k =
       let r = row-exactly c 6 (omega arith) .0 (sym (q .code) ∙ k) in
       h .code ∙ first-passes 6 _ (r .1 4 (omega arith)) ∙ first-holds 8 [] (r .0)

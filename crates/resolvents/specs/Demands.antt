@@ -2,57 +2,42 @@
 -- the table of refusals is read row by row, an accepted call has one resolvent, and where f is a product of x - a that resolvent
 -- is the product over the placements. Every f is such a product in some ring over the residues.
 use mathlib.Core.Path.{_≡_, refl, sym, ap, ap₂, _∙_}
-use mathlib.Core.Bool.{Bool, true, false}
-use mathlib.Core.List.{List, [], _∷_, map, List·Memᴰ, List·Memᴰ·head, List·Memᴰ·tail, Memᴰ·cast}
+use mathlib.Core.Bool.{true, false}
+use mathlib.Core.List.{List, [], _∷_, map, List·Memᴰ, Memᴰ·cast}
 use mathlib.Core.Logic.{_↔_}
 use Prim.Native.Nat.{ℕ, _≤_, _<_}
 use native.Mathlib.Decide.{ℕ-discrete}
+use native.Mathlib.Nat.{le-refl}
 use native.Mathlib.Omega.{arith}
-use lib.ListN.{length, take, length-take}
+use lib.ListN.{length, take}
 use lib.Seq.{take-append-seam}
 use lib.IntN.{ℤ}
+use Rattle.limits.specs.Limits.{capacity, room}
+use Rattle.checks.specs.Checks.{row}
 use Rattle.algebra.specs.Ring.{Ops, Laws}
 use Rattle.algebra.specs.Hom.{Hom}
 use Rattle.algebra.specs.Integer.{ℤ-eq}
-use Rattle.residues.specs.Prime.{prime-positive}
 use Rattle.residues.specs.Residues.{residues, Words}
-use Rattle.placements.specs.Placements.{placements}
-use Rattle.placements.specs.Number.{placed, placed-number}
+use Rattle.placements.specs.Placements.{placed, placements}
+use Rattle.placements.specs.Number.{placed-number}
 use Rattle.polynomials.specs.Divisors.{Simple}
 use Rattle.definition.specs.Definition.{Resolvent}
-use Rattle.definition.specs.Roots.{product, values}
-use Rattle.definition.specs.Words.{split-words, values-below}
+use Rattle.definition.specs.Product.{product, values}
 use Rattle.definition.specs.Cost.{NumberOfLists, lists, most-lists}
 use Rattle.definition.specs.Merge.{lists-number, number-only, lists-most, most-mono}
-use Rattle.definition.specs.Answer.{resolvent}
-use Rattle.definition.specs.Refusals.{Call, weights, N, room, modulus-checks, polynomial-checks, weight-checks, room-checks, divisor-checks, checks, first, refusal, Accepted}
-use Rattle.definition.specs.Table.{row, row-exactly, not-refused}
-use Rattle.definition.specs.Accepted.{accepted-only}
-use Rattle.definition.specs.Cases.{Row, mark, rows, call, Holds, table}
-use Rattle.lists_end.specs.Words.{words-product, RootRing, root-ring, words-told}
+use Rattle.lists_end.specs.Words.{RootRing, root-ring}
+use Rattle.refusals.specs.Refusals.{Call, weights, N, call-checks, checks, refusal, GoodJob, Accepted}
+use Rattle.refusals.specs.Reading.{refusal-listed, row-exactly, not-refused}
+use Rattle.refusals.specs.Resolved.{Resolved, words-only, resolved-only, resolved-product, resolved-anywhere, resolved-told}
+use Rattle.refusals.specs.Success.{weights-counted}
+use Rattle.refusals.specs.Cases.{Case, cases, Holds}
+use Rattle.refusals.specs.CasesHold.{table, call, case-accepted}
 use Rattle.resolvents.specs.Promise.{Exit, Refused, Done, Promise}
-use Rattle.resolvents.specs.Decided.{same-mark}
-
--- the number of a table is 0 or that of a row
-first-listed : (rows : List (Bool × ℕ)) → List·Memᴰ (first rows) (0 ∷ map (λ r. r .1) rows)
-unfolding first
-first-listed [] = List·Memᴰ·head refl
-first-listed ((true, k) ∷ rows) = List·Memᴰ·tail (List·Memᴰ·head refl)
-first-listed ((false, k) ∷ rows) = later (first-listed rows)
-  where
-    later : {x : ℕ} {xs : List ℕ} → List·Memᴰ x (0 ∷ xs) → List·Memᴰ x (0 ∷ k ∷ xs)
-    later (List·Memᴰ·head e) = List·Memᴰ·head e
-    later (List·Memᴰ·tail m) = List·Memᴰ·tail (List·Memᴰ·tail m)
-
--- document 01's numbers for this entry
-numbers : (c : Call) → List·Memᴰ (refusal c) (0 ∷ 2 ∷ 3 ∷ 4 ∷ 5 ∷ 6 ∷ 7 ∷ 8 ∷ 9 ∷ 10 ∷ 11 ∷ 12 ∷ 16 ∷ [])
-unfolding refusal checks modulus-checks polynomial-checks weight-checks room-checks divisor-checks
-numbers c = first-listed (checks c)
 
 module _ (c : Call) (e : Exit) (q : Promise c e) where
   -- Demand 1: the code is 0 or a number of the table
   pub code-listed : List·Memᴰ (e .outcome .code) (0 ∷ 2 ∷ 3 ∷ 4 ∷ 5 ∷ 6 ∷ 7 ∷ 8 ∷ 9 ∷ 10 ∷ 11 ∷ 12 ∷ 16 ∷ [])
-  code-listed = Memᴰ·cast (q .code) (numbers c)
+  code-listed = Memᴰ·cast (q .code) (refusal-listed c)
 
   -- given exactly when its row's test holds and no earlier one does
   pub code-exactly : (j : ℕ) → j < length (checks c)
@@ -72,23 +57,27 @@ module _ (c : Call) (e : Exit) (q : Promise c e) where
     done : Done c e
     done = q .done (sym (q .code) ∙ success)
 
+    good : GoodJob (c .p) (c .f) (c .r) (weights c)
+    good = success-exactly .0 success .good .job
+
+    answer : Resolved (c .p) (c .f) (weights c) (e .outcome .simple) (take (N c) (e .output))
+    answer = done .success .resolved
+
     -- the first N words of output are the resolvent
     pub output-resolvent : Resolvent (residues (c .p)) (c .f) (weights c) (take (N c) (e .output))
-    output-resolvent = done .resolved
+    output-resolvent = answer .resolvent
 
     -- any words below p that rules 1 to 4 allow are these words
     pub output-only : (b : List ℕ) → Words (c .p) b → Resolvent (residues (c .p)) (c .f) (weights c) b → take (N c) (e .output) ≡ b
-    output-only b low r =
-        let a : Accepted c = success-exactly .0 success in
-        accepted-only c a _ (done .words) (done .resolved) ∙ sym (accepted-only c a b low r)
+    output-only = words-only good (weights-counted c) answer
 
     -- N counts the placements
     pub count-placements : e .outcome .count ≡ length (placements ℤ-eq (length (c .f)) (weights c))
-    count-placements = done .count ∙ sym (placed-number (length (c .f)) (weights c))
+    count-placements = done .success .number ∙ sym (placed-number (length (c .f)) (weights c))
 
     -- the mark is yes exactly if f and its derivative have greatest common divisor 1
     pub mark-exactly : (e .outcome .simple ≡ true) ↔ Simple (c .p) (c .f)
-    mark-exactly = done .simple
+    mark-exactly = answer .simple
 
     -- Request 13: the number of lists worked is the one that its rule tells of the job's weights in the job's order
     pub lists-told : (number : List ℤ → ℕ) → NumberOfLists number → e .outcome .lists ≡ number (weights c)
@@ -96,35 +85,32 @@ module _ (c : Call) (e : Exit) (q : Promise c e) where
 
     -- it is at most V(r), so at most 1,957
     pub lists-at-most : e .outcome .lists ≤ most-lists (c .r)
-    lists-at-most = omega (arith, done .lists, lists-most (weights c), most-mono (length (weights c)) (c .r) (omega (arith, length-take (c .r) (c .places))))
+    lists-at-most = omega (arith, done .lists, lists-most (weights c), most-mono (length (weights c)) (c .r) (weights-counted c))
 
     pub lists-at-most-1957 : e .outcome .lists ≤ 1957
     unfolding most-lists
-    lists-at-most-1957 = omega (arith, lists-at-most, most-mono (c .r) 6 (success-exactly .0 success .list .high))
+    lists-at-most-1957 = omega (arith, lists-at-most, most-mono (c .r) capacity (good .list .high))
 
     -- Demand 3: where f is the product of x - a over any residues a, equal or not, the output is the product of x - v over the
     -- weighted sums v of all placements
     pub output-product : (roots : List ℕ) → Words (c .p) roots → c .f ≡ product (residues (c .p)) roots
         → take (N c) (e .output) ≡ product (residues (c .p)) (values (residues (c .p)) roots (weights c))
-    output-product roots low f =
-        let positive = prime-positive (success-exactly .0 success .modulus .prime) in
-        output-only _ (values-below positive roots low (weights c)) (rw f (split-words positive roots low (weights c)))
+    output-product = resolved-product good (weights-counted c) answer
 
     -- Demand 3 for every f: in whatever ring q over the residues f is the product of x - a, the output is there the product of x - v
     -- over the weighted sums v of all placements. φ takes a word to its number in q, and keeps sums and products.
     pub output-product-anywhere : {B : Type 0} {q : Ops B} → Laws q → {φ : ℕ → B} → Hom (residues (c .p)) q φ → (roots : List B) → map φ (c .f) ≡ product q roots
         → map φ (take (N c) (e .output)) ≡ product q (values q roots (weights c))
-    output-product-anywhere l hom roots f =
-        let a : Accepted c = success-exactly .0 success in
-        words-product (a .modulus .prime) l hom (c .f) roots f (weights c) (a .divisors .product-apart) (a .divisors .each-apart) _ output-resolvent
+    output-product-anywhere l hom = resolved-anywhere good (weights-counted c) answer l hom
 
     -- and there is such a ring for every f, where words below p that differ still differ
     pub splits-somewhere : RootRing (c .p) (c .f)
-    splits-somewhere = root-ring (success-exactly .0 success .modulus .prime) (c .f)
+    splits-somewhere = root-ring (good .modulus .prime) (c .f)
 
     -- words below p that are the product there are the output
-    pub output-told : (s : RootRing (c .p) (c .f)) (b : List ℕ) → Words (c .p) b → map (s .embed) b ≡ product (s .ops) (values (s .ops) (s .roots) (weights c)) → take (N c) (e .output) ≡ b
-    output-told s b low h = words-told s _ b (done .words) low (output-product-anywhere (s .laws) (s .hom) (s .roots) (s .factors) ∙ sym h)
+    pub output-told : (s : RootRing (c .p) (c .f)) (b : List ℕ) → Words (c .p) b → map (s .embed) b ≡ product (s .ops) (values (s .ops) (s .roots) (weights c))
+        → take (N c) (e .output) ≡ b
+    output-told = resolved-told good (weights-counted c) answer
 
 -- two calls with the same job and as much room: places after the r-th and what stands in the lent words may differ
 pub record Alike (c c' : Call) : Type 0 where
@@ -145,63 +131,54 @@ pub record SameNumbers (e e' : Exit) : Type 0 where
 
 module _ (c c' : Call) (same : Alike c c') where
   same-refusal : refusal c ≡ refusal c'
-  unfolding refusal checks
+  unfolding refusal checks call-checks
   same-refusal = rw (same .weights, same .p, same .f, same .r, same .output, same .work)
 
   same-N : N c ≡ N c'
   same-N = ap₂ (λ f L. placed (length f) L) (same .f) (same .weights)
 
-  same-resolvent : resolvent (c .p) (c .f) (weights c) ≡ resolvent (c' .p) (c' .f) (weights c')
-  same-resolvent = rw (same .weights, same .p, same .f)
-
   -- they give the same numbers back
   pub alike-numbers : (e e' : Exit) → Promise c e → Promise c' e' → SameNumbers e e'
   alike-numbers e e' q q' = elim (ℕ-discrete (refusal c) 0) [
     | yes z ↦
-        let z' : refusal c' ≡ 0 = sym same-refusal ∙ z in
         let d : Done c e = q .done z in
-        let d' : Done c' e' = q' .done z' in
+        let d' : Done c' e' = q' .done (sym same-refusal ∙ z) in
+        let a' : Resolved (c .p) (c .f) (weights c) (e' .outcome .simple) (take (N c') (e' .output)) = rw (same .weights, same .p, same .f) (d' .success .resolved) in
+        let only = resolved-only (not-refused c .0 z .good .job) (weights-counted c) (d .success .resolved) a' in
         record {
           code = q .code ∙ same-refusal ∙ sym (q' .code);
-          count = d .count ∙ same-N ∙ sym (d' .count);
-          simple = same-mark _ _ (d .simple) (rw (same .p, same .f) (d' .simple));
+          count = d .success .number ∙ same-N ∙ sym (d' .success .number);
+          simple = only .0;
           lists = d .lists ∙ ap lists (same .weights) ∙ sym (d' .lists);
-          words =
-              rw (d .count, d' .count) (accepted-only c (not-refused c .0 z) _ (d .words) (d .resolved)
-              ∙ same-resolvent
-              ∙ sym (accepted-only c' (not-refused c' .0 z') _ (d' .words) (d' .resolved)));
+          words = rw (d .success .number, d' .success .number) (only .1);
         }
     | no z ↦
         let d : Refused c e = q .refused z in
         let d' : Refused c' e' = q' .refused (λ z'. z (same-refusal ∙ z')) in
         record {
           code = q .code ∙ same-refusal ∙ sym (q' .code);
-          count = d .count ∙ sym (d' .count);
-          simple = d .simple ∙ sym (d' .simple);
+          count = d .untouched .no-number ∙ sym (d' .untouched .no-number);
+          simple = d .untouched .no-mark ∙ sym (d' .untouched .no-mark);
           lists = d .lists ∙ sym (d' .lists);
-          words = rw (d .count, d' .count) refl;
+          words = rw (d .untouched .no-number, d' .untouched .no-number) refl;
         }
   ]
 
--- the numbers that a row of cases A to L asks for
-pub record Answers (r : Row) (e : Exit) : Type 0 where
+-- the numbers that one of cases A to L asks for
+pub record CaseNumbers (k : Case) (e : Exit) : Type 0 where
   pub code : e .outcome .code ≡ 0
-  pub count : e .outcome .count ≡ length (r .resolvent)
-  pub simple : e .outcome .simple ≡ mark r
-  pub words : take (length (r .resolvent)) (e .output) ≡ r .resolvent
+  pub count : e .outcome .count ≡ length (k .resolvent)
+  pub simple : e .outcome .simple ≡ k .mark
+  pub words : take (length (k .resolvent)) (e .output) ≡ k .resolvent
 
--- cases A to L: every allowed exit has the row's numbers, whatever stands behind the weights and in the lent words
-pub case-numbers : (r : Row) → List·Memᴰ r rows → (more : List ℤ) (output work : List ℕ)
-    → length (r .resolvent) ≤ length output → room (length (r .resolvent)) ≤ length work → (e : Exit) → Promise (call r more output work) e → Answers r e
-case-numbers r m more output work h k e q =
-    let holds : Holds r = table r m in
-    let z : refusal (call r more output work) ≡ 0 = not-refused _ .1 (holds .accepted more output work h k) in
-    let d : Done (call r more output work) e = q .done z in
-    let list : weights (call r more output work) ≡ r .weights = take-append-seam (r .weights) more in
-    let N-is : N (call r more output work) ≡ length (r .resolvent) = ap (placed (length (r .f))) list ∙ sym (holds .resolved .size) in
-    record {
-      code = q .code ∙ z;
-      count = d .count ∙ N-is;
-      simple = same-mark _ _ (d .simple) (holds .marked);
-      words = holds .only _ (rw N-is at (d .words)) (rw (N-is, list) at (d .resolved));
-    }
+-- cases A to L: every allowed exit has the case's numbers, whatever stands behind the weights and in the lent words
+pub case-numbers : (k : Case) → List·Memᴰ k cases → (more : List ℤ) (output work : List ℕ)
+    → length (k .resolvent) ≤ length output → room (length (k .resolvent)) ≤ length work → (e : Exit) → Promise (call k more output work) e → CaseNumbers k e
+case-numbers k m more output work o w e q =
+    let holds : Holds k = table k m in
+    let z : refusal (call k more output work) ≡ 0 = not-refused _ .1 (case-accepted k holds more output work o w) in
+    let s = q .done z .success in
+    let list : weights (call k more output work) ≡ k .weights = take-append-seam (k .weights) more in
+    let N-is : N (call k more output work) ≡ length (k .resolvent) = ap (placed (length (k .f))) list ∙ sym (holds .resolved .resolvent .size) in
+    let only = resolved-only (holds .good) (le-refl _) (rw (N-is, list) at (s .resolved)) (holds .resolved) in
+    record { code = q .code ∙ z; count = s .number ∙ N-is; simple = only .0; words = only .1 }

@@ -1,7 +1,7 @@
 pub mod Promise
-pub mod Judged
+pub mod Decided
 pub mod Cleared
 pub mod Cost
-pub mod Decided
+pub mod Slices
 pub mod Demands
 pub mod Wrong

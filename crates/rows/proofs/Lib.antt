@@ -1,4 +1,4 @@
-pub mod Stored
+pub mod Crossed
 pub mod Terms
 pub mod Inner
 pub mod Grown

@@ -11,8 +11,8 @@ use Rattle.algebra.specs.Hom.{Hom}
 use Rattle.algebra.specs.Series.{series, series-laws, monomial, zero-at}
 use Rattle.polynomials.specs.Divisors.{Below}
 use Rattle.polynomials.specs.Bounds.{below-one, below-neg}
-use Rattle.splitting.specs.Steps.{Modulus, scale, step, act, act-zero, act-suc, zero-scale, one-scale, add-scale, mul-scale, neg-scale}
-use Rattle.splitting.specs.Steps.{act-linear, act-comm, act-one, act-modulus, scale-below, sum-below, step-below, act-below}
+use Rattle.splitting.specs.Steps.{Modulus, scale, times-y, act, act-zero, act-suc, zero-scale, one-scale, add-scale, mul-scale, neg-scale}
+use Rattle.splitting.specs.Steps.{act-linear, act-comm, act-one, act-modulus, scale-below, sum-below, times-y-below, act-below}
 
 -- the sequences that end before n
 abbrev pub Remainder : {A : Type 0} (o : Ops A) (n : ℕ) → Type 0
@@ -52,7 +52,7 @@ module _ {A : Type 0} {o : Ops A} (l : Laws o) where
 
     -- the root of f
     pub root : K
-    root = (step o g 1ˢ, step-below l g one-below)
+    root = (times-y o g 1ˢ, times-y-below l g one-below)
 
     pub ops : Ops K
     ops = record {
@@ -90,10 +90,10 @@ module _ {A : Type 0} {o : Ops A} (l : Laws o) where
       add-neg = λ u. remainder-path _ _ (series-laws l .add-neg (u .0));
     }
 
-    -- the root times v is the step of v, and a constant times v a multiple of v
-    root-mul : (v : K) → ops .mul root v .0 ≡ step o g (v .0)
+    -- the root times v is the times-y of v, and a constant times v a multiple of v
+    root-mul : (v : K) → ops .mul root v .0 ≡ times-y o g (v .0)
     unfolding ops root
-    root-mul v = times-comm root v ∙ act-linear l g (suc (g .m)) (v .0) .at-step 1ˢ ∙ ap (step o g) (times-one v)
+    root-mul v = times-comm root v ∙ act-linear l g (suc (g .m)) (v .0) .at-times-y 1ˢ ∙ ap (times-y o g) (times-one v)
 
     const-mul : (a : A) (v : K) → ops .mul (const a) v .0 ≡ scale o a (v .0)
     unfolding ops const

@@ -15,7 +15,7 @@ use Rattle.polynomials.specs.Divisors.{Below, poly, monic}
 use Rattle.polynomials.specs.Reversed.{getD-reverse}
 use Rattle.polynomials.specs.Bounds.{below-poly}
 use Rattle.polynomials.specs.Carried.{hom-poly}
-use Rattle.definition.specs.Roots.{listed, length-listed, getD-listed, product}
+use Rattle.definition.specs.Product.{listed, length-listed, getD-listed, product}
 
 module _ {A : Type 0} (o : Ops A) where
   -- 1, c1, .., cn, and zeros

@@ -9,12 +9,11 @@ use lib.ListN.{length, length-map}
 use Rattle.algebra.specs.Ring.{Ops, Laws}
 use Rattle.algebra.specs.Ring as R
 use Rattle.algebra.specs.Newton.{coeff, coeff-cons, times-root}
-use Rattle.algebra.specs.Product.{value-at}
 use Rattle.algebra.specs.Hom.{Hom}
 use Rattle.polynomials.specs.Divisors.{Below, poly, monic}
 use Rattle.polynomials.specs.Bounds.{below-poly, below-monic, monic-top}
-use Rattle.definition.specs.Roots.{listed, length-listed, product, length-product}
-use Rattle.splitting.specs.Values.{value-first, value-next, divided, divided-past, hom-times-root}
+use Rattle.definition.specs.Product.{listed, length-listed, product, length-product}
+use Rattle.splitting.specs.Values.{value-at, value-first, value-next, divided, divided-past, hom-times-root}
 use Rattle.splitting.specs.Lists.{leading, monic-leading, listed-leading, product-leading, same-list, hom-leading}
 use Rattle.splitting.specs.Steps.{Monic, Modulus}
 use Rattle.splitting.specs.Adjoin.{K, ops, laws, const, const-hom, root, class, class-zero, class-suc, class-modulus}

@@ -8,11 +8,14 @@ use native.Mathlib.Omega.{arith}
 use Rattle.algebra.specs.Ring.{Ops, Laws}
 use Rattle.algebra.specs.Ring as R
 use Rattle.algebra.specs.Power.{pow, pow-zero, pow-suc}
-use Rattle.algebra.specs.Sum.{sum-suc, sum-one, sum-cong, mul-sum}
+use Rattle.algebra.specs.Sum.{sum, sum-suc, sum-one, sum-cong, mul-sum}
 use Rattle.algebra.specs.Newton.{times-root, times-root-zero, times-root-suc}
-use Rattle.algebra.specs.Product.{value-at}
 use Rattle.algebra.specs.Hom.{Hom}
 use Rattle.polynomials.specs.Divisors.{Below}
+
+-- c 0 · x^n + c 1 · x^(n-1) + .. + c n
+unfoldable pub value-at : {A : Type 0} (o : Ops A) → (ℕ → A) → ℕ → A → A
+value-at o c n x = sum o (suc n) (λ i. o .mul (c i) (pow o x (n - i)))
 
 module _ {A : Type 0} {o : Ops A} (l : Laws o) where
   open Ops o using (zero as 𝟘, one as 𝟙, add as _⊕_, mul as _⊗_, neg as ⊖_)

@@ -1,11 +1,9 @@
 // What bench/ measures, for C to call.
 ghost use mathlib.Core.Path.{_≡_};
-ghost use Prim.Native.Nat.{_+_, _-_, _≤_};
-ghost use lib.ListN.{length, getD};
-ghost use Rattle.algebra.specs.Sum.{sum};
-ghost use Rattle.halves.specs.Halves.{Halved, Widened, Halves, of-halves};
-ghost use Rattle.residues.specs.Promises.{InRange};
-ghost use Rattle.residues.specs.Residues.{residues};
+ghost use Prim.Native.Nat.{_≤_};
+ghost use lib.ListN.{length};
+ghost use Rattle.halves.specs.Halves.{Halved, Widened, Halves, halves-sum};
+ghost use Rattle.residues.specs.Promises.{InRange, inner-sum};
 
 // The inner product, and 0 where its words do not have the range.
 #[no_mangle]
@@ -16,7 +14,7 @@ pub extern "C" fn linres_inner_product(
     terms: usize,
     last: usize,
 ) -> u32
-    ensures { λ r. ⌜ (InRange p (now (a .entry)) (now (b .entry)) terms last → r ≡ sum (residues p) terms (λ i. residues p .mul (getD (now (a .entry)) i 0) (getD (now (b .entry)) (last - i) 0))) ⌝ }
+    ensures { λ r. ⌜ (InRange p (now (a .entry)) (now (b .entry)) terms last → r ≡ inner-sum p (now (a .entry)) (now (b .entry)) terms last) ⌝ }
     ensures { λ r. ⌜ ((InRange p (now (a .entry)) (now (b .entry)) terms last → ⊥) → r ≡ 0) ⌝ }
 {
     if p == 0 {
@@ -65,7 +63,7 @@ pub extern "C" fn linres_inner_halves(
     terms: usize,
 ) -> u32
     requires { ⌜ Halves p (now low) (now high) from (now wide) at terms ⌝ }
-    ensures { λ r. ⌜ r ≡ sum (residues p) terms (λ i. residues p .mul (getD (now (wide .entry)) (at + i) 0) (of-halves (now (low .entry)) (now (high .entry)) (from + i))) ⌝ }
+    ensures { λ r. ⌜ r ≡ halves-sum p (now (low .entry)) (now (high .entry)) from (now (wide .entry)) at terms ⌝ }
 {
     halves::inner_halves(p, low, high, from, wide, at, terms)
 }

@@ -1,19 +1,22 @@
 -- What callers use of the definitions: the cases by plain facts, and what becomes of the weights that a list holds.
--- A field `[i32; 6]` is a list that has six members only where a function starts (`.good`), so the laws that need it ask for it.
+-- A field that is an array is a list whose length is known only where a function starts (`.good`), so the laws that need it ask for it.
 use mathlib.Core.Path.{_≡_, refl, _∙_}
 use mathlib.Core.Bool.{Bool, true, false, cond, _&&_, and-false, and-eq-true-iff}
-use mathlib.Core.List.{List, [], _∷_, _++_}
+use mathlib.Core.List.{List, [], _∷_, _++_, append-nil}
 use Prim.Native.Nat.{ℕ, suc, _+_, _-_, _≤_, _<_, _^_, min}
 use native.Mathlib.Numerals.{add-one}
+use native.Mathlib.Decide.{decLe}
 use native.Mathlib.Omega.{arith}
 use lib.IntN.{ℤ, pos, _+ℤ_}
 use lib.Signed.{mag}
-use lib.ListN.{length, take, drop, getD, length-append, length-take, length-drop}
-use lib.Seq.{slice, drop-cons, take-at, take-set-lt, getD-take, take-take}
+use lib.ListN.{length, take, drop, getD, replicate, drop-of-length-le, length-append, length-take, length-drop}
+use lib.Seq.{slice, drop-cons, take-all, take-append-seam, take-at, take-set-lt, getD-take, take-take}
 use lib.Dec.{leb, ltb}
 use borrow.Author.Tests.{lt-ltb, le-leb, lt-leb, leb-true, ltb-true}
-use Rattle.placements.specs.Places.{with-sum, length-with-sum}
-use Rattle.weights.specs.Lists.{capacity, listed, among, fits, taken-out, put-in, without-at, with-sum-at}
+use Rattle.placements.specs.Places.{with-sum}
+use Rattle.placements.specs.Collisions.{length-with-sum}
+use Rattle.limits.specs.Limits.{capacity}
+use Rattle.weights.specs.Lists.{of-slice, listed, among, fits, taken-out, put-in, without-at, with-sum-at}
 use Rattle.weights.specs.declared.Weights.{Weights}
 
 module _ (s : Weights) (at : ℕ) where
@@ -72,6 +75,17 @@ module _ (s : Weights) (at : ℕ) where
 
 -- ---- what becomes of the weights
 
+-- a list made of given weights holds those that have a place
+pub of-slice-holds : {s : Weights} (w : List ℤ) → s ≡ of-slice w → (s .len ≡ length w) × (listed s ≡ take capacity w)
+unfolding of-slice listed
+of-slice-holds w e = rw e (refl, front capacity (replicate capacity (pos 0)) refl)
+  where
+    front : (n : ℕ) (z : List ℤ) → length z ≡ n → take (length w) (take n w ++ drop (length w) z) ≡ take n w
+    front n z l = elim (decLe (length w) n) [
+      | yes h ↦ rw (take-all n w h) (take-append-seam w _)
+      | no h ↦ rw (drop-of-length-le z {i = length w} (omega arith), append-nil) (take-all (length w) (take n w) (rw length-take (omega arith)))
+    ]
+
 module _ (s : Weights) where
   pub listed-min : length (listed s) ≡ min (s .len) (length (s .places))
   unfolding listed
@@ -85,7 +99,7 @@ module _ (s : Weights) where
   unfolding listed
   listed-at i h = getD-take (s .len) (s .places) i (pos 0) h
 
-module _ (s : Weights) (six : length (s .places) ≡ capacity) (short : s .len ≤ capacity) where
+module _ (s : Weights) (full : length (s .places) ≡ capacity) (short : s .len ≤ capacity) where
   pub listed-length : length (listed s) ≡ s .len
   listed-length = omega (arith, listed-min s)
 

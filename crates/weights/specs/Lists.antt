@@ -3,23 +3,24 @@
 use Prim.Native.Nat.{ℕ, _+_, _-_, _^_}
 use mathlib.Core.Bool.{Bool, cond, _&&_}
 use mathlib.Core.List.{List, _∷_, _++_}
-use lib.ListN.{take, drop, getD}
+use lib.ListN.{length, take, drop, getD, replicate}
 use lib.Seq.{slice}
 use lib.Dec.{ltb, leb}
 use lib.IntN.{ℤ, pos, _+ℤ_}
 use lib.Signed.{mag}
+use Rattle.limits.specs.Limits.{capacity}
 use Rattle.placements.specs.Places.{with-sum}
 use Rattle.weights.specs.declared.Weights.{Weights}
 
--- "at most 6 signed weights"
-abbrev pub capacity : ℕ
-capacity = 6
+-- the list of given weights: those that have a place, and 0 in each place behind the last; r is how many there are
+unfoldable pub of-slice : List ℤ → Weights
+of-slice w = record { places = take capacity w ++ drop (length w) (replicate capacity (pos 0)); len = length w }
 
--- the weights are the first r places, or all six where r is above 6; "places after the r-th count for nothing"
+-- the weights are the first r places, or all where r is above the capacity; "places after the r-th count for nothing"
 unfoldable pub listed : Weights → List ℤ
 listed s = take (s .len) (s .places)
 
--- the place is among the first r, and r is not above 6; the first place is 0
+-- the place is among the first r, and r is not above the capacity; the first place is 0
 unfoldable pub among : Weights → ℕ → Bool
 among s at = leb (s .len) capacity && ltb at (s .len)
 

@@ -10,9 +10,11 @@ use lib.ListN.{length, getD}
 use lib.Seq.{ext-getD}
 use Rattle.algebra.specs.Binomial.{fact, fact-zero, fact-suc, fact-positive, falling, falling-zero, falling-none, falling-suc}
 use Rattle.algebra.specs.Integer.{ℤ-eq}
-use Rattle.placements.specs.Multiplicity.{factorials, factorials-nil, factorials-cons, count, count-le}
-use Rattle.placements.specs.Number.{placed, placed-whole}
-use Rattle.weights.specs.Lists.{capacity, listed}
+use Rattle.placements.specs.Placements.{count, factorials, placed}
+use Rattle.placements.specs.Multiplicity.{factorials-nil, factorials-cons, count-le}
+use Rattle.placements.specs.Number.{placed-whole}
+use Rattle.limits.specs.Limits.{capacity}
+use Rattle.weights.specs.Lists.{listed}
 use Rattle.weights.specs.Laws.{listed-min, listed-at}
 use Rattle.weights.specs.declared.Weights.{Weights}
 
@@ -41,12 +43,12 @@ falling-le b (suc n) (suc r) h = rw (falling-suc n r, pow-succ' b r) (mul-le-mul
 
 -- ---- of a list's weights
 
--- at most 6! = 720, a word of 32 bits
+-- at most the factorial of the capacity, a word of 32 bits
 pub factorials-small : (L : List ℤ) → length L ≤ capacity → factorials ℤ-eq L < 2 ^ 32
 unfolding fact
 factorials-small L h = omega (arith, factorials-le ℤ-eq L, fact-mono (length L) capacity h)
 
--- at most 255^6, a word of 64 bits
+-- at most 255 to the capacity, a word of 64 bits
 pub falling-small : (n r : ℕ) → n ≤ 255 → r ≤ capacity → falling n r < 2 ^ 64
 falling-small n r h k = omega (arith, le-trans (falling-le 255 n r h) (pow-le-pow-right {n = 255} (omega arith) k))
 
@@ -55,10 +57,10 @@ pub whole : (s : Weights) (n : ℕ) → factorials ℤ-eq (listed s) * placed n 
 whole s n = placed-whole n (listed s)
 
 -- two lists with the same r and the same first r places hold the same weights, so what stands behind them makes no difference
-module _ (s t : Weights) (six : length (s .places) ≡ length (t .places)) (r : s .len ≡ t .len)
+module _ (s t : Weights) (long : length (s .places) ≡ length (t .places)) (r : s .len ≡ t .len)
     (same : (i : ℕ) → i < s .len → getD (s .places) i (pos 0) ≡ getD (t .places) i (pos 0)) where
   pub listed-behind : listed s ≡ listed t
-  listed-behind = ext-getD (pos 0) (listed s) (listed t) (rw (listed-min s, listed-min t, r, six))
+  listed-behind = ext-getD (pos 0) (listed s) (listed t) (rw (listed-min s, listed-min t, r, long))
       (λ i k.
       let l : i < s .len = omega (arith, listed-min s) in
       listed-at s i l ∙ same i l ∙ sym (listed-at t i (omega arith)))

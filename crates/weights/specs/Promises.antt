@@ -1,13 +1,17 @@
--- Each promise decides its result: two results that it allows are equal.
+-- Each promise decides its result: two results that it allows are equal. Each is an equation with one side given, so this is no more than
+-- that equality can be turned and joined.
 use mathlib.Core.Path.{_≡_, sym, _∙_}
+use mathlib.Core.List.{List}
 use Prim.Native.Nat.{ℕ}
 use lib.IntN.{ℤ, pos}
 use lib.ListN.{getD, drop}
 use Rattle.algebra.specs.Integer.{ℤ-eq}
-use Rattle.placements.specs.Multiplicity.{count, factorials}
-use Rattle.placements.specs.Number.{placed}
-use Rattle.weights.specs.Lists.{listed, without-at, with-sum-at}
+use Rattle.placements.specs.Placements.{count, factorials, placed}
+use Rattle.weights.specs.Lists.{of-slice, listed, without-at, with-sum-at}
 use Rattle.weights.specs.declared.Weights.{Weights}
+
+pub of-decides : (w : List ℤ) (a b : Weights) → a ≡ of-slice w → b ≡ of-slice w → a ≡ b
+of-decides w a b h k = h ∙ sym k
 
 pub without-decides : (s : Weights) (at : ℕ) (a b : Weights) → a ≡ without-at s at → b ≡ without-at s at → a ≡ b
 without-decides s at a b h k = h ∙ sym k

@@ -28,9 +28,9 @@ pub record Rest (list rest : Weights) (first : ℤ) : Type 0 where
 module _ (list : Weights) (some : 1 ≤ list .len) (b : Bounded list) where
   rest-is : Rest list (without-at list 0) (getD (list .places) 0 (pos 0))
   rest-is = record {
-    shorter = omega (arith, without-len list (b .six) (b .short) 0 some);
-    whole = listed-first list (b .six) (b .short) some;
-    long = let r = rest-bounded list b 0 some in listed-length (without-at list 0) (r .six) (r .short);
+    shorter = omega (arith, without-len list (b .full) (b .short) 0 some);
+    whole = listed-first list (b .full) (b .short) some;
+    long = let r = rest-bounded list b 0 some in listed-length (without-at list 0) (r .full) (r .short);
     bounded = rest-bounded list b 0 some;
     meets = λ j met h e. rw e (record {
       len = with-sum-len (without-at list 0) j (getD (list .places) 0 (pos 0));

@@ -1,5 +1,5 @@
--- The list's rule: the sizes of its weights add up to at most 16 · 6, so every weight in it is from -96 to 96 and sums fit their
--- word. A job's list has it, since each of its weights is from -16 to 16. A list that comes of it by taking a weight out, and by
+-- The list's rule: the sizes of its weights add up to at most the largest weight times the capacity, so every weight in it is at
+-- most that, and sums fit their word. A job's list has it, since none of its weights is above the largest. A list that comes of it by taking a weight out, and by
 -- adding that weight to another, has it too: the sum of two weights is not larger than the two together.
 use mathlib.Core.Path.{_≡_, sym, _∙_}
 use mathlib.Core.Bool.{Bool, true, false, cond}
@@ -13,7 +13,8 @@ use lib.ListN.{length, take, drop, getD}
 use Rattle.algebra.specs.Natural.{naturals}
 use Rattle.algebra.specs.Sum.{total, total-nil, total-cons}
 use Rattle.placements.specs.Places.{with-sum}
-use Rattle.weights.specs.Lists.{capacity, listed, without-at, with-sum-at}
+use Rattle.limits.specs.Limits.{capacity, largest-weight}
+use Rattle.weights.specs.Lists.{listed, without-at, with-sum-at}
 use Rattle.weights.specs.Laws.{listed-length, listed-at, without-len, without-places, without-listed, with-sum-len, with-sum-places, with-sum-listed}
 use Rattle.weights.specs.declared.Weights.{Weights}
 
@@ -26,9 +27,9 @@ abbrev pub Within : ℕ → List ℤ → Type 0
 Within b L = (i : ℕ) → i < length L → natAbs (getD L i (pos 0)) ≤ b
 
 pub record Bounded (s : Weights) : Type 0 where
-  pub six : length (s .places) ≡ capacity
+  pub full : length (s .places) ≡ capacity
   pub short : s .len ≤ capacity
-  pub small : size (listed s) ≤ 16 * capacity
+  pub small : size (listed s) ≤ largest-weight * capacity
 
 -- ---- sizes of whole numbers (laws of ℤ that name no list)
 
@@ -79,11 +80,8 @@ size-with-sum (d ∷ M) (suc j) e = rw (size-cons d M, size-cons d (with-sum M j
 
 -- ---- the rule is kept
 
-pub job-bounded : (s : Weights) → length (s .places) ≡ capacity → s .len ≤ capacity → Within 16 (listed s) → Bounded s
-job-bounded s six short h = record { six = six; short = short; small = omega (arith, size-within 16 (listed s) h, listed-length s six short) }
-
-pub weight-bounded : (s : Weights) → Bounded s → (i : ℕ) → natAbs (getD (listed s) i (pos 0)) ≤ 16 * capacity
-weight-bounded s b i = omega (arith, size-at (listed s) i, b .small)
+pub job-bounded : (s : Weights) → length (s .places) ≡ capacity → s .len ≤ capacity → Within largest-weight (listed s) → Bounded s
+job-bounded s full short h = record { full = full; short = short; small = omega (arith, size-within largest-weight (listed s) h, listed-length s full short) }
 
 -- a weight is taken out, and added to another
 module _ (s : Weights) (b : Bounded s) (at : ℕ) (within : at < s .len) where
@@ -95,13 +93,13 @@ module _ (s : Weights) (b : Bounded s) (at : ℕ) (within : at < s .len) where
 
   pub rest-size : natAbs weight + size (listed rest) ≡ size (listed s)
   rest-size =
-      rw (without-listed s (b .six) (b .short) at within, ← listed-at s at within)
-      (size-without (listed s) at (rw (listed-length s (b .six) (b .short)) within))
+      rw (without-listed s (b .full) (b .short) at within, ← listed-at s at within)
+      (size-without (listed s) at (rw (listed-length s (b .full) (b .short)) within))
 
   pub rest-bounded : Bounded rest
   rest-bounded = record {
-    six = without-places s (b .six) (b .short) at within;
-    short = omega (arith, without-len s (b .six) (b .short) at within, b .short);
+    full = without-places s (b .full) (b .short) at within;
+    short = omega (arith, without-len s (b .full) (b .short) at within, b .short);
     small = omega (arith, rest-size, b .small);
   }
 
@@ -121,14 +119,14 @@ module _ (s : Weights) (b : Bounded s) (at : ℕ) (within : at < s .len) where
     met = with-sum-at rest j weight
 
     pub collision-listed : listed met ≡ with-sum (listed rest) j weight
-    collision-listed = with-sum-listed rest (rest-bounded .six) (rest-bounded .short) j there weight (collision-fits j)
+    collision-listed = with-sum-listed rest (rest-bounded .full) (rest-bounded .short) j there weight (collision-fits j)
 
     pub collision-size : size (listed met) ≤ size (listed s)
     collision-size = rw collision-listed (omega (arith, size-with-sum (listed rest) j weight, rest-size))
 
     pub collision-bounded : Bounded met
     collision-bounded = record {
-      six = with-sum-places rest j weight ∙ rest-bounded .six;
+      full = with-sum-places rest j weight ∙ rest-bounded .full;
       short = omega (arith, with-sum-len rest j weight, rest-bounded .short);
       small = omega (arith, collision-size, b .small);
     }

@@ -1,4 +1,4 @@
-// A weight list: at most 6 signed weights with their count r (document 01, "A job in numbers").
+// A weight list: a few signed weights with their count r (document 01, "A job in numbers").
 // A list goes in by value and a new one comes back; the old one stays good. Every list and place is answered.
 ghost use Prim.Native.Nat.{_+_, _≤_, _<_};
 ghost use mathlib.Core.Path.{_≡_};
@@ -6,26 +6,40 @@ ghost use lib.IntN.{pos};
 ghost use lib.ListN.{length, drop, getD};
 ghost use Rattle.algebra.specs.Binomial.{falling};
 ghost use Rattle.algebra.specs.Integer.{ℤ-eq};
-ghost use Rattle.placements.specs.Multiplicity.{count, factorials};
-ghost use Rattle.placements.specs.Number.{placed};
-ghost use Rattle.weights.specs.Lists.{capacity, listed, among, without-at, with-sum-at};
-
-// The most weights that a list holds.
-pub const CAPACITY: usize = 6;
+ghost use Rattle.placements.specs.Placements.{count, factorials, placed};
+ghost use Rattle.limits.specs.Limits.{capacity};
+ghost use Rattle.weights.specs.Lists.{of-slice, listed, among, without-at, with-sum-at};
 
 // The first len places hold the weights; places after them count for nothing.
 pub struct Weights {
-    pub places: [i32; CAPACITY],
+    pub places: [i32; limits::CAPACITY],
     pub len: usize,
 }
 
 impl Weights {
-    // Whether a place is among the first r, and r is not above 6.
+    // The list of the numbers in a slice: its first places, as many as there are, hold them, and r is how many the slice has.
+    pub fn of(weights: &[i32]) -> Weights
+        ensures { λ r. ⌜ r ≡ of-slice (now (weights .entry)) ⌝ }
+    {
+        let len = weights.len();
+        let mut places = [0i32; limits::CAPACITY];
+        let mut i = 0;
+        while i < len {
+            if i == limits::CAPACITY {
+                return Weights { places, len };
+            }
+            places[i] = weights[i];
+            i += 1;
+        }
+        Weights { places, len }
+    }
+
+    // Whether a place is among the first r, and r is not above the capacity.
     fn has_place(self, at: usize) -> bool
         ensures { λ r. ⌜ r ≡ among self at ⌝ }
     {
         let n = self.len;
-        if n > CAPACITY {
+        if n > limits::CAPACITY {
             return false;
         }
         at < n
@@ -71,12 +85,16 @@ impl Weights {
         self
     }
 
-    // How many weights the list holds: r, or all six places where r is above 6.
+    // How many weights the list holds: r, or all places where r is above the capacity.
     fn held(self) -> usize
         ensures { λ r. ⌜ (r ≡ length (listed self)) × (r ≤ capacity) ⌝ }
     {
         let n = self.len;
-        if n < CAPACITY { n } else { CAPACITY }
+        if n < limits::CAPACITY {
+            n
+        } else {
+            limits::CAPACITY
+        }
     }
 
     // The weight at a place, 0 past the last.

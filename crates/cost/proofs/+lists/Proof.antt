@@ -11,13 +11,14 @@ use mir.Val.{toZ, ofZ}
 use mir.ValLaws.{toZ-ofZ}
 use lib.IntN.{ℤ, pos}
 use lib.ListN.{length, getD}
+use Rattle.limits.specs.Limits.{capacity}
 use Rattle.weights.specs.declared.Weights.{Weights}
-use Rattle.weights.specs.Lists.{capacity, listed}
+use Rattle.weights.specs.Lists.{listed}
 use Rattle.weights.specs.Laws.{listed-none}
 use Rattle.weights.specs.Rests.{Rest, Met, rest-facts}
 use Rattle.definition.specs.Cost.{lists}
 use Rattle.definition.specs.Merge.{lists-number}
-use Rattle.cost.specs.Walk.{new-here, old-here, walked, walked-none, walked-new, walked-old, walked-list, walked-fits}
+use Rattle.cost.specs.Walk.{New, new-here, old-here, walked, walked-none, walked-new, walked-old, walked-list, walked-fits}
 use borrow.Fn.Kinds.{In, Out}
 use borrow.Fn.PlainCycle.{Measures, is, falls, and}
 use Rattle.cost.proofs.lists.Reads as lists-reads
@@ -81,9 +82,9 @@ module _ (t : ℕ) where
   abbrev Place : Type 0
   Place = seen lists-lts.At-loop
 
-  -- at a place of the rest, when its copies are counted
-  abbrev Counted : Type 0
-  Counted = seen lists-lts.After-copies2
+  -- at a place of the rest, when its copies are copied
+  abbrev Copied : Type 0
+  Copied = seen lists-lts.After-copies2
 
   -- the collision there is made
   abbrev Meeting : Type 0
@@ -97,14 +98,23 @@ module _ {t : ℕ} where
   abbrev start : Parted t → Start t
   start c = c .before .before .before
 
+  abbrev told : Told t → Parted t
+  told c = c .before
+
   abbrev parted : Place t → Parted t
   parted c = c .before .before
 
-  abbrev place : Counted t → Place t
-  place c = c .before .before .before .before
+  abbrev counting : Copied t → seen t lists-lts.After-copies
+  counting c = c .before
 
-  abbrev counted : Meeting t → Counted t
-  counted c = c .before .before
+  abbrev place : Copied t → Place t
+  place c = counting c .before .before .before
+
+  abbrev copied : Meeting t → Copied t
+  copied c = c .before .before
+
+  abbrev meeting : Added t → Meeting t
+  meeting c = c .before
 
   module _ (c : Parted t) where
     abbrev list : Weights
@@ -117,7 +127,9 @@ module _ {t : ℕ} where
     first = toZ w32 (ofZ w32 (getD (list .places) 0 (pos 0)))
 
     rest-at : Rest list rest first
-    rest-at = rest-facts list (omega (arith, c .before .before .if1 .left)) (start c .pre .1) rest first (toZ-ofZ w32 _ (record { sfits = c .before .first .given })) (c .without .ensures)
+    rest-at =
+        let read : seen t lists-lts.After-first = search needs in
+        rest-facts list (search needs) (start c .pre .1) rest first (toZ-ofZ w32 _ (record { sfits = read .first .given })) (c .without .ensures)
 
     fewer : rest .len < t
     fewer = omega (arith, rest-at .shorter, start c .pre .0)
@@ -125,11 +137,11 @@ module _ {t : ℕ} where
     few : length (listed rest) < capacity
     few = omega (arith, rest-at .shorter, rest-at .long, start c .pre .1 .short)
 
-  -- no collision is counted yet
-  none-at : (c : Told t) → 1 + c .lists .result ≡ walked (first (c .before)) (listed (rest (c .before))) 0
-  none-at c = ap (λ n. 1 + n) (c .lists .ensures) ∙ walked-none (first (c .before)) (listed (rest (c .before)))
+  -- no collision is copied yet
+  none-at : (c : Told t) → 1 + c .lists .result ≡ walked (first (told c)) (listed (rest (told c))) 0
+  none-at c = ap (λ n. 1 + n) (c .lists .ensures) ∙ walked-none _ _
 
-  module _ (c : Counted t) where
+  module _ (c : Copied t) where
     abbrev e : ℤ
     e = first (parted (place c))
 
@@ -140,22 +152,27 @@ module _ {t : ℕ} where
     j = place c .loop .next
 
     within : j < rest (parted (place c)) .len
-    within = c .before .before .if2 .taken
+    within = search needs
 
     there : j < length M
     there = omega (arith, within, rest-at (parted (place c)) .long)
 
-  met-at : (c : Meeting t) → Met (rest (parted (place (counted c)))) (c .with-sum .result) (e (counted c)) (j (counted c))
-  met-at c = let b = counted c in rest-at (parted (place b)) .meets (j b) _ (within b) (c .with-sum .ensures)
+    -- its weight stands there for the first time, or not: as many equal ones stand from there on as in the whole rest, or fewer
+    new-at : counting c .copies .result ≡ c .copies2 .result → New M j
+    new-at q = new-here M j (sym (counting c .copies .ensures) ∙ q ∙ c .copies2 .ensures)
+
+    old-at : ¬ (counting c .copies .result ≡ c .copies2 .result) → ¬ New M j
+    old-at n = old-here M j (λ q. n (counting c .copies .ensures ∙ q ∙ sym (c .copies2 .ensures)))
+
+  met-at : (c : Meeting t) → Met (rest (parted (place (copied c)))) (c .with-sum .result) (e (copied c)) (j (copied c))
+  met-at c = let b = copied c in rest-at (parted (place b)) .meets (j b) _ (within b) (c .with-sum .ensures)
 
   -- one collision more
-  more-at : (c : Added t) →
-      let b = counted (c .before) in
-      place b .loop .number + c .lists2 .result ≡ walked (e b) (M b) (j b + 1)
+  more-at : (c : Added t) → let b = copied (meeting c) in place b .loop .number + c .lists2 .result ≡ walked (e b) (M b) (j b + 1)
   more-at c =
-      let b = counted (c .before) in
-      ap₂ (λ x y. x + y) (place b .loop .inv .1) (c .lists2 .ensures ∙ ap lists (met-at (c .before) .sum))
-      ∙ walked-new (e b) (M b) (j b) (there b) (new-here (M b) (j b) (sym (b .before .copies .ensures) ∙ c .before .before .if3 .taken ∙ b .copies2 .ensures))
+      let b = copied (meeting c) in
+      ap₂ (λ x y. x + y) (place b .loop .inv .1) (c .lists2 .ensures ∙ ap lists (met-at (meeting c) .sum))
+      ∙ walked-new (e b) (M b) (j b) (there b) (new-at b (search needs))
 
 pub +lists-spec : {M : Type 1} → statement M
 +lists-spec =
@@ -165,29 +182,22 @@ pub +lists-spec : {M : Type 1} → statement M
     lists-reads.Post
     lists-Inv-loop
     lists-μ-loop
-    (λ c. sym (ap lists (listed-none (c .before .args .t1) (c .if1 .taken)) ∙ lists-number .empty))
-    (λ c. search needs)
-    (λ c κs. search needs)
+    (λ c. let s : Start t = search needs in sym (ap lists (listed-none (s .args .t1) (c .if1 .taken)) ∙ lists-number .empty))
+    (λ c. search needs) (λ c κs. search needs)
     (λ c κs. (fewer c, rest-at c .bounded))
-    (λ c. record { fits = walked-fits _ _ 0 _ (none-at c) (few (c .before)) (omega arith) })
+    (λ c. record { fits = walked-fits _ _ 0 _ (none-at c) (few (told c)) (omega arith) })
     (λ c. (omega arith, none-at c))
-    (λ c. search needs)
-    (λ c κs. search needs)
-    (λ c κs. search needs)
-    (λ c κs. search needs)
-    (λ c κs. let d = met-at c in (omega (arith, d .len, fewer (parted (place (counted c)))), d .bounded))
+    (λ c. search needs) (λ c κs. search needs) (λ c κs. search needs) (λ c κs. search needs)
+    (λ c κs. let d = met-at c in (omega (arith, d .len, fewer (parted (place (copied c)))), d .bounded))
     (λ c.
-    let b = counted (c .before) in
+    let b = copied (meeting c) in
     record { fits = walked-fits _ _ (j b + 1) _ (more-at c) (few (parted (place b))) (omega (arith, there b)) })
     (λ c. search needs)
-    (λ c. (omega (arith, within (counted (c .before))), more-at c))
+    (λ c. (omega (arith, within (copied (meeting c))), more-at c))
     (λ c. search needs)
     (λ c.
-    let b : Counted t = c .before in (
-      omega (arith, within b),
-      place b .loop .inv .1
-          ∙ walked-old (e b) (M b) (j b) (there b) (old-here (M b) (j b) (λ q. c .if3 .left (b .before .copies .ensures ∙ q ∙ sym (b .copies2 .ensures)))),
-    ))
+    let b : Copied t = search needs in
+    (omega (arith, within b), place b .loop .inv .1 ∙ walked-old (e b) (M b) (j b) (there b) (old-at b (c .if3 .left))))
     (λ c.
-    let b : Place t = c .before .before in
+    let b : Place t = search needs in
     walked-list (list (parted b)) (rest (parted b)) (rest-at (parted b)) (b .loop .inv .0) (c .if2 .left) (b .loop .inv .1))

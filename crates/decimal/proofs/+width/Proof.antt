@@ -1,8 +1,9 @@
--- `decimal::width`: the spelling of v is that of v / 10 and one digit more, so the width is one more. The measure is v.
+-- The spelling of v is that of v / 10 and one digit more, so the width is one more; the measure is v. A word has at most ten digits.
 use Prim.Native.Nat.{ℕ, _<_}
+use native.Mathlib.Omega.{arith}
 use borrow.Author.Needs.{needs}
-use borrow.Fn.Kinds.{In}
 use borrow.Fn.PlainCycle.{Measures, is, falls, and}
+use Rattle.decimal.specs.NumberLaws.{length-small}
 use Rattle.decimal.proofs.Writes as writes
 use Rattle.decimal.proofs.width.Reads as width
 use Rattle.decimal.proofs.width.Kinds as width-kinds
@@ -13,37 +14,12 @@ use Rattle.decimal.proofs.+width.Tie.{close}
 abbrev μ-width : Measures 0 width-kinds.ps ℕ
 μ-width κs a = a .0
 
-abbrev width-at : ℕ → In 0 width-kinds.ps
-width-at t = and 0 width-kinds.ps (is 0 width-kinds.ps μ-width t) width.Pre
-
-abbrev width-below : ℕ → In 0 width-kinds.ps
-width-below t = and 0 width-kinds.ps (falls 0 width-kinds.ps _<_ μ-width t) width.Pre
-
-width-returns :
-    (t : ℕ) → width-lts.Need-returns (width-below t, width.Post) (width-at t) width.Post
-width-returns t c = search writes.width-one
-
-width-width-requires :
-    (t : ℕ) → width-lts.Need-width-requires (width-below t, width.Post) (width-at t) width.Post
-width-width-requires t c κs = search needs
-
-width-add-result :
-    (t : ℕ) → width-lts.Need-add-result (width-below t, width.Post) (width-at t) width.Post
-width-add-result t c = search needs
-
-width-returns-2 :
-    (t : ℕ) → width-lts.Need-returns-2 (width-below t, width.Post) (width-at t) width.Post
-width-returns-2 t c = writes.width-more _ _ (c .before .if1 .left) (c .width .ensures)
-
 pub +width-spec : {M : Type 1} → statement M
 +width-spec =
-    close
-    μ-width
-    λ t. width-lts.spec
-    (width-below t, width.Post)
-    (width-at t)
+    close μ-width λ t. width-lts.spec
+    (and 0 width-kinds.ps (falls 0 width-kinds.ps _<_ μ-width t) width.Pre, width.Post)
+    (and 0 width-kinds.ps (is 0 width-kinds.ps μ-width t) width.Pre)
     width.Post
-    (width-returns t)
-    (width-width-requires t)
-    (width-add-result t)
-    (width-returns-2 t)
+    (λ c. omega (arith, length-small _ (c .if1 .taken)))
+    (λ c κs. search needs) (λ c. search needs)
+    (λ c. writes.width-more _ _ (c .before .if1 .left) (omega arith) (c .width .ensures .0))

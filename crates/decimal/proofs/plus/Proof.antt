@@ -1,11 +1,8 @@
--- `decimal::plus`: a number up to 999 is the same as a signed word.
+-- A number that is not above the largest fits the signed word, whose bits are then the number's.
 use borrow.Author.Needs.{needs}
-use Rattle.decimal.proofs.SignedSteps as steps
+use Rattle.decimal.proofs.Signs as signs
 use Rattle.decimal.proofs.plus.Statement.{statement}
 use Rattle.decimal.proofs.plus.Tie as tie
 
-returns : tie.Need-returns
-returns c = search steps.plus-is
-
 pub plus-spec : {M : Type 1} → statement M
-plus-spec = tie.close (tie.spec (λ c. search needs) returns)
+plus-spec = tie.close (tie.spec (λ c. search needs) (λ c. search signs.plus-is))

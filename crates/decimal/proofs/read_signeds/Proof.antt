@@ -1,83 +1,62 @@
--- `decimal::read_signeds`: as `read_numbers`, by the same steps; a signed number is stored by its bits.
-use Prim.Native.Nat.{_-_, _≤_}
-use mathlib.Core.Path.{_≡_}
+-- As for numbers without a sign, `Reading` is the loop's invariant. A number is stored by its bits, which are the number, since what was
+-- read is small.
+use Prim.Native.Nat.{_-_}
+use mathlib.Core.Path.{sym, _∙_, ap}
 use native.Mathlib.Omega.{arith}
-use native.Mathlib.Nat.{sub-zero}
-use lib.ListN.{length, take, drop, length-set}
+use lib.ListN.{length, length-set}
 use mir.Syntax.{w32}
 use mir.Val.{toZ, ofZ}
 use borrow.Author.Needs.{needs}
-use Rattle.decimal.specs.Scan.{got, more-items, read-list, signed-number}
+use Rattle.decimal.specs.Scan.{signed-number, signed-of}
 use Rattle.decimal.specs.SignedLaws.{signed-numbers}
-use Rattle.decimal.proofs.SignedSteps.{signed-bad, signed-is}
 use Rattle.decimal.proofs.ListSteps as steps
+use Rattle.decimal.proofs.SignedSteps.{stored-is}
 use Rattle.decimal.proofs.read_signeds.Statement.{statement}
 use Rattle.decimal.proofs.read_signeds.Tie as tie
 
 abbrev Inv-loop : tie.InvT-loop
-Inv-loop part out₀ n₀ at₀ out n at =
-    (n ≤ length out) × (at ≤ length part) × (length out ≡ length out₀) × (read-list signed-number (length out₀) part ≡ more-items signed-number (length out₀ - n) (drop at part) (take n out) at)
+Inv-loop part out₀ n₀ at₀ out n at = steps.Reading signed-number part out₀ out n at
 
 abbrev μ-loop : tie.MeasureT-loop
 μ-loop part out₀ n₀ at₀ out n at = length out - n
 
--- the number that was read, for each place behind it
-read-at : (c : tie.After-v Inv-loop μ-loop) → signed-number (drop (c .before .before .before .before .before .loop .at) (c .before .before .before .before .before .before .before .args .part .now)) ≡ got (toZ w32 (ofZ w32 (c .v .given .0 .0))) (c .v .given .0 .1 .0 .at)
-read-at c = signed-is (c .before .before .before .before .before .before .before .args .part .now) (c .before .before .before .before .before .loop .at) _ _ _ (c .before .before .read-signed .ensures) (c .v .given .1)
+-- the call that reads a number, the turn that it stands in, and the start
+abbrev call : tie.After-v Inv-loop μ-loop → tie.After-read-signed Inv-loop μ-loop
+call c = c .before .before
 
-loop-holds : tie.Need-loop-holds Inv-loop μ-loop
-loop-holds c = (search needs, search needs, search needs, simp sub-zero)
+abbrev turn : tie.After-read-signed Inv-loop μ-loop → tie.In-loop Inv-loop μ-loop
+turn c = c .before .before
 
-returns : tie.Need-returns Inv-loop μ-loop
-returns c = search (steps.no-item, signed-bad)
+abbrev start : tie.At-loop Inv-loop μ-loop → tie.Start Inv-loop μ-loop
+start c = c .before .before
 
-add-at : tie.Need-add-at Inv-loop μ-loop
-add-at c = omega (arith, steps.item-fits signed-numbers (c .before .before .before .before .before .before .before .before .before .args .part .now) (c .before .before .before .before .before .before .before .loop .at) (c .before .before .before .before .before .before .before .loop .inv .1) _ _ (read-at (c .before .before)))
-
-add-at-2 : tie.Need-add-at-2 Inv-loop μ-loop
-add-at-2 c = omega (arith, steps.item-fits signed-numbers (c .before .before .before .before .before .before .before .before .before .args .part .now) (c .before .before .before .before .before .before .before .loop .at) (c .before .before .before .before .before .before .before .loop .inv .1) _ _ (read-at (c .before .before)))
-
-returns-2 : tie.Need-returns-2 Inv-loop μ-loop
-returns-2 c = steps.done signed-number _ (c .before .before .before .before .before .before .before .before .before .before .args .part .now) (c .before .before .before .before .before .before .before .before .loop .out) (c .before .before .before .before .before .before .before .before .loop .n) (c .before .before .before .before .before .before .before .before .loop .at) (c .before .before .before .before .before .before .before .before .loop .inv .3) (c .before .before .before .before .before .before .before .before .loop .inv .2) (c .before .before .before .before .before .before .before .loop-test .taken) _ _ (read-at (c .before .before .before)) _ (c .before .byte-at .ensures) (c .if1 .taken)
-
-returns-3 : tie.Need-returns-3 Inv-loop μ-loop
-returns-3 c = search (steps.other, read-at (c .before .before .before .before))
-
-loop-less : tie.Need-loop-less Inv-loop μ-loop
-loop-less c = simp length-set (omega arith)
-
-loop-again : tie.Need-loop-again Inv-loop μ-loop
-loop-again c = (simp length-set (omega arith), steps.comma-fits signed-numbers (c .before .before .before .before .before .before .before .before .before .before .before .args .part .now) (c .before .before .before .before .before .before .before .before .before .loop .at) (c .before .before .before .before .before .before .before .before .before .loop .inv .1) _ _ (read-at (c .before .before .before .before)) _ (c .before .before .byte-at .ensures) (c .if2 .left), simp length-set (search needs), steps.more signed-number _ (c .before .before .before .before .before .before .before .before .before .before .before .args .part .now) (c .before .before .before .before .before .before .before .before .before .loop .out) (c .before .before .before .before .before .before .before .before .before .loop .n) (c .before .before .before .before .before .before .before .before .before .loop .at) (c .before .before .before .before .before .before .before .before .before .loop .inv .3) (c .before .before .before .before .before .before .before .before .before .loop .inv .2) (c .before .before .before .before .before .before .before .before .loop-test .taken) _ _ (read-at (c .before .before .before .before)) _ (c .before .before .byte-at .ensures) (c .before .if1 .left) (c .if2 .left))
-
-returns-4 : tie.Need-returns-4 Inv-loop μ-loop
-returns-4 c = search steps.full
+-- the number and the byte behind it
+item : (c : tie.After-byte-at Inv-loop μ-loop) → let v = c .before .before .v .given .0 in let t = turn (call (c .before .before)) .before in let l = t .loop in
+    steps.ItemRead signed-number (start t .args .part .now) (start t .args .out .now) (l .out) (l .n) (l .at) (toZ w32 (ofZ w32 (v .0))) (v .1 .0 .at) (c .byte-at .result)
+item c = let v = c .before .before in let t = turn (call v) in record {
+  reading = t .before .loop .inv;
+  room = t .loop-test .taken;
+  found = stored-is _ (sym (call v .read-signed .ensures) ∙ ap signed-of (v .v .given .1));
+  byte = c .byte-at .ensures;
+}
 
 pub read-signeds-spec : {M : Type 1} → statement M
 read-signeds-spec =
-    tie.close
-    (tie.spec
-    Inv-loop
-    μ-loop
-    loop-holds
+    tie.close (tie.spec Inv-loop μ-loop
+    (λ c. steps.reading-none signed-number _ _)
+    (λ c. search needs) (λ c. search needs) (λ c. search needs) (λ c κs. search needs) (λ c. search needs) (λ c. search needs) (λ c. search needs)
+    (λ c.
+    let call = c .before .before in
+    let t = turn call in
+    steps.no-item (t .before .loop .inv) (t .loop-test .taken) (sym (call .read-signed .ensures) ∙ ap signed-of (c .enum-told .given .1)))
+    (λ c κs. search needs) (λ c. search needs) (λ c. search needs) (λ c. search needs)
+    (λ c. omega (arith, steps.item-fits (item c) signed-numbers))
+    (λ c. omega (arith, steps.item-fits (item c) signed-numbers))
     (λ c. search needs)
+    (λ c. steps.ended (item (c .before)) (c .if1 .taken))
     (λ c. search needs)
+    (λ c. steps.other (item (c .before .before)) (c .before .if1 .left) (c .if2 .taken))
+    (λ c. simp length-set (omega arith))
+    (λ c. steps.more (item (c .before .before)) (c .before .if1 .left) (c .if2 .left))
     (λ c. search needs)
-    (λ c κs. search needs)
-    (λ c. search needs)
-    (λ c. search needs)
-    (λ c. search needs)
-    returns
-    (λ c κs. search needs)
-    (λ c. search needs)
-    (λ c. search needs)
-    (λ c. search needs)
-    add-at
-    add-at-2
-    (λ c. search needs)
-    returns-2
-    (λ c. search needs)
-    returns-3
-    loop-less
-    loop-again
-    (λ c. search needs)
-    returns-4)
+    (λ c. steps.full (c .before .loop .inv) (c .loop-test .left)))

@@ -1,57 +1,50 @@
--- `decimal::write_numbers`: the loop's invariant, `Writing`: what is left to write, over what was written, is the whole line.
+-- The loop's invariant, `Writing`: what is left to write, over what was written, is the whole line. A turn writes an item and the byte
+-- behind it; at the end nothing is left.
 use Prim.Native.Nat.{_+_, _-_, _<_}
 use native.Mathlib.Omega.{arith}
 use lib.ListN.{length, getD}
 use borrow.Author.Needs.{needs}
 use Rattle.decimal.specs.Spelling.{decimal}
-use Rattle.decimal.proofs.ListWrites.{Writing}
 use Rattle.decimal.proofs.ListWrites as writes
 use Rattle.decimal.proofs.write_numbers.Statement.{statement}
 use Rattle.decimal.proofs.write_numbers.Tie as tie
 
 abbrev Inv-loop : tie.InvT-loop
-Inv-loop out₀ at xs p₀ i₀ out p i = Writing decimal xs out₀ at out p i
+Inv-loop out₀ at xs p₀ i₀ out p i = writes.Writing decimal xs out₀ at out p i
 
 abbrev μ-loop : tie.MeasureT-loop
 μ-loop out₀ at xs p₀ i₀ out p i = length xs - i
 
--- the item and what stands behind it have room
-room : (c : tie.In-loop Inv-loop μ-loop) → c .before .loop .p + length (decimal (getD (c .before .before .before .before .args .xs .now) (c .before .loop .i) 0)) < length (c .before .loop .out)
-room c = writes.writing-room decimal _ _ _ _ _ _ (c .before .loop .inv) 0 (c .loop-test .taken) (c .before .before .before .before .pre)
+abbrev start : tie.At-loop Inv-loop μ-loop → tie.Start Inv-loop μ-loop
+start c = c .before .before .before
 
-loop-holds : tie.Need-loop-holds Inv-loop μ-loop
-loop-holds c = writes.writing-none decimal _ _ _
+-- a turn, and in it the calls
+abbrev written : tie.After-separator Inv-loop μ-loop → tie.After-write-u32 Inv-loop μ-loop
+written c = c .before .before .before .before
 
-write-u32-requires : tie.Need-write-u32-requires Inv-loop μ-loop
-write-u32-requires c κs = omega (arith, room (c .before .before))
+abbrev turn : tie.After-write-u32 Inv-loop μ-loop → tie.In-loop Inv-loop μ-loop
+turn c = c .before .before .before
 
-slice-write-out : tie.Need-slice-write-out Inv-loop μ-loop
-slice-write-out c = omega (arith, room (c .before .before .before .before .before .before))
+item : (c : tie.In-loop Inv-loop μ-loop) → let xs = start (c .before) .args .xs .now in writes.Item xs (c .before .loop .i) (getD xs (c .before .loop .i) 0)
+item c = writes.item-of _ _ 0 (c .loop-test .taken)
 
-add-p : tie.Need-add-p Inv-loop μ-loop
-add-p c = omega (arith, room (c .before .before .before .before .before .before))
-
-loop-again : tie.Need-loop-again Inv-loop μ-loop
-loop-again c = writes.writing-more decimal _ _ _ _ _ _ (c .before .before .before .before .before .before .before .loop .inv) 0 (c .before .before .before .before .before .before .loop-test .taken) _ _ _ (c .before .before .before .write-u32 .ensures) (c .before .before .before .write-u32 .kept .0) (c .separator .ensures)
-
-returns : tie.Need-returns Inv-loop μ-loop
-returns c = writes.writing-end decimal _ _ _ _ _ _ (c .before .loop .inv) (c .loop-test .left)
+room : (c : tie.In-loop Inv-loop μ-loop) → let l = c .before .loop in l .p + length (decimal (getD (start (c .before) .args .xs .now) (l .i) 0)) < length (l .out)
+room c = writes.writing-room (c .before .loop .inv) (item c) (start (c .before) .pre)
 
 pub write-numbers-spec : {M : Type 1} → statement M
 write-numbers-spec =
-    tie.close
-    (tie.spec
-    Inv-loop
-    μ-loop
-    loop-holds
+    tie.close (tie.spec Inv-loop μ-loop
+    (λ c. writes.writing-none decimal _ _ _)
+    (λ c. search needs) (λ c. search needs)
+    (λ c κs. omega (arith, room (c .before .before)))
+    (λ c. search needs) (λ c κs. search needs)
+    (λ c κs. omega (arith, room (turn (written c))))
     (λ c. search needs)
+    (λ c.
+    let byte = c .before .before in
+    let call = written (byte .before) in
+    let t = turn call in
+    writes.writing-more (t .before .loop .inv) (item t) (call .write-u32 .ensures) (call .write-u32 .kept .0) (byte .before .separator .ensures) (byte .write-byte .ensures)
+    (byte .write-byte .kept .0))
     (λ c. search needs)
-    write-u32-requires
-    (λ c. search needs)
-    (λ c κs. search needs)
-    slice-write-out
-    add-p
-    (λ c. search needs)
-    loop-again
-    (λ c. search needs)
-    returns)
+    (λ c. writes.writing-end (c .before .loop .inv) (c .loop-test .left)))

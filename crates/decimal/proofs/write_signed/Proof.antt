@@ -1,41 +1,39 @@
--- `decimal::write_signed`: the spelling is that of the size, with a minus sign in front below zero: the store writes the sign, the call the size.
-use mathlib.Core.Path.{_∙_, ap}
+-- The spelling is that of the size, with a minus sign in front below zero: the one byte and the size are written one behind the other.
+use mathlib.Core.Path.{_≡_, ap}
+use mathlib.Core.List.{_∷_}
 use native.Mathlib.Omega.{arith}
-use lib.ListN.{length, length-set}
+use lib.ListN.{length}
 use borrow.Author.Needs.{needs}
-use Rattle.decimal.proofs.SignedWrites as writes
+use Rattle.decimal.specs.Spelling.{decimal, signed}
+use Rattle.decimal.proofs.Writes.{wrote-then}
+use Rattle.decimal.proofs.Signs as signs
 use Rattle.decimal.proofs.write_signed.Statement.{statement}
 use Rattle.decimal.proofs.write_signed.Tie as tie
 
-slice-write-out : tie.Need-slice-write-out
-slice-write-out c = omega (arith, ap length (writes.signed-neg (c .before .before .before .before .args .z) (c .before .before .before .before .fits .z) _ _ (c .before .before .size .ensures) (c .before .below-zero .ensures) (c .if1 .taken)))
+abbrev start : tie.After-size → tie.Start
+start c = c .before .before
 
-write-u32-requires : tie.Need-write-u32-requires
-write-u32-requires c κs = simp length-set (omega (arith, ap length (writes.signed-neg (c .before .before .before .before .before .args .z) (c .before .before .before .before .before .fits .z) _ _ (c .before .before .before .size .ensures) (c .before .before .below-zero .ensures) (c .before .if1 .taken))))
+asked : (c : tie.After-below-zero) → signs.SizeSign (start (c .before) .args .z) (c .before .size .result) (c .below-zero .result)
+asked c = record { small = start (c .before) .pre .0; size = c .before .size .ensures; sign = c .below-zero .ensures }
 
-same-length : tie.Need-same-length
-same-length c = c .before .before .write-u32 .kept .0 ∙ simp length-set
+-- the spelling in the two branches
+below : (c : tie.Then1) → signed (start (c .before .before) .args .z) ≡ 45 ∷ decimal (c .before .before .size .result)
+below c = signs.spelt-below (asked (c .before)) (c .if1 .taken)
 
-returns : tie.Need-returns
-returns c = rw (writes.signed-neg (c .before .before .before .before .before .before .before .before .args .z) (c .before .before .before .before .before .before .before .before .fits .z) _ _ (c .before .before .before .before .before .before .size .ensures) (c .before .before .before .before .before .below-zero .ensures) (c .before .before .before .before .if1 .taken)) (writes.minus-first _ _ _ _ _ (c .before .before .write-u32 .ensures))
-
-write-u32-requires-2 : tie.Need-write-u32-requires-2
-write-u32-requires-2 c κs = omega (arith, ap length (writes.signed-pos (c .before .before .before .before .before .args .z) (c .before .before .before .before .before .fits .z) _ _ (c .before .before .before .size .ensures) (c .before .before .below-zero .ensures) (c .before .if1 .left)))
-
-returns-2 : tie.Need-returns-2
-returns-2 c = rw (writes.signed-pos (c .before .before .before .before .before .before .before .before .args .z) (c .before .before .before .before .before .before .before .before .fits .z) _ _ (c .before .before .before .before .before .before .size .ensures) (c .before .before .before .before .before .below-zero .ensures) (c .before .before .before .before .if1 .left)) (c .before .before .write-u322 .ensures)
+above : (c : tie.Else1) → signed (start (c .before .before) .args .z) ≡ decimal (c .before .before .size .result)
+above c = signs.spelt-above (asked (c .before)) (c .if1 .left)
 
 pub write-signed-spec : {M : Type 1} → statement M
 write-signed-spec =
-    tie.close
-    (tie.spec
-    (λ c κs. search needs)
-    (λ c κs. search needs)
-    slice-write-out
+    tie.close (tie.spec
+    (λ c κs. search needs) (λ c κs. search needs)
+    (λ c κs. omega (arith, ap length (below (c .before))))
+    (λ c κs. let byte = c .before .before .before in omega (arith, ap length (below (byte .before .before))))
     (λ c. search needs)
-    write-u32-requires
-    same-length
-    returns
-    write-u32-requires-2
+    (λ c.
+    let call = c .before .before in
+    let byte = call .before .before .before .before in
+    rw (below (byte .before .before)) (wrote-then (byte .write-byte .ensures) (call .write-u32 .ensures)))
+    (λ c κs. omega (arith, ap length (above (c .before))))
     (λ c. search needs)
-    returns-2)
+    (λ c. let call = c .before .before in rw (above (call .before .before)) (call .write-u322 .ensures)))

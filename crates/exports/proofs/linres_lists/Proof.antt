@@ -1,4 +1,4 @@
--- `linres_lists` keeps the promise of `lists_for`.
+-- The promise is that of `lists_for`, whose result is handed back part by part.
 use mathlib.Core.Path.{refl}
 use borrow.Author.Needs.{needs}
 use Rattle.exports.proofs.linres_lists.Statement.{statement}

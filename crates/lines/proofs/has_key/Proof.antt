@@ -1,4 +1,5 @@
--- `lines::has_key`: the loop's invariant: the text starts with the key exactly if the rest of the text starts with the rest of the key.
+-- The loop's invariant: the text starts with the key exactly if the rest of the text starts with the rest of the key. So a byte that
+-- differs, or the text's end, says no, and the key's end says yes.
 use Prim.Native.Nat.{_-_, _≤_}
 use mathlib.Core.Path.{_≡_}
 use lib.ListN.{length, drop}
@@ -14,30 +15,13 @@ Inv-loop text key i₀ i = (i ≤ length key) × (starts key text ≡ starts (dr
 abbrev μ-loop : tie.MeasureT-loop
 μ-loop text key i₀ i = length key - i
 
-returns : tie.Need-returns Inv-loop μ-loop
-returns c = search steps.text-end
-
-returns-2 : tie.Need-returns-2 Inv-loop μ-loop
-returns-2 c = search steps.differs
-
-loop-again : tie.Need-loop-again Inv-loop μ-loop
-loop-again c = (search needs, search steps.agrees)
-
-returns-3 : tie.Need-returns-3 Inv-loop μ-loop
-returns-3 c = search steps.key-end
-
 pub has-key-spec : {M : Type 1} → statement M
 has-key-spec =
-    tie.close
-    (tie.spec
-    Inv-loop
-    μ-loop
+    tie.close (tie.spec Inv-loop μ-loop
     (λ c. search needs)
-    returns
-    (λ c. search needs)
-    (λ c. search needs)
-    returns-2
-    (λ c. search needs)
-    (λ c. search needs)
-    loop-again
-    returns-3)
+    (λ c. search steps.text-end)
+    (λ c. search needs) (λ c. search needs)
+    (λ c. search steps.differs)
+    (λ c. search needs) (λ c. search needs)
+    (λ c. (search needs, search steps.agrees))
+    (λ c. search steps.key-end))

@@ -1,81 +1,52 @@
--- `lines::read_head`: the two lines are read one behind the other; a bad one is a bad head.
-use Prim.Native.Nat.{ℕ, _≤_}
-use mathlib.Core.Path.{_≡_, ap}
-use mathlib.Core.List.{List}
+-- The two lines are read one behind the other, the second in the part behind the first; a bad one is a bad head. What is read is within
+-- its text, so the place behind both is within the whole.
+use Prim.Native.Nat.{_+_, _≤_}
 use native.Mathlib.Omega.{arith}
-use lib.ListN.{length, length-drop}
+use lib.ListN.{length}
 use borrow.Author.Needs.{needs}
-use Rattle.decimal.specs.Scan.{Got, got, number}
-use Rattle.decimal.specs.ListLaws.{numbers}
-use Rattle.decimal.proofs.ListSteps.{rest, rest-is}
+use Rattle.decimal.proofs.ListSteps.{rest, rest-length}
 use Rattle.lines.specs.Lines.{bytes}
-use Rattle.lines.specs.Scan.{head, keyed, one-line}
-use Rattle.lines.specs.Laws.{keyeds, one-lines, within}
-use Rattle.lines.proofs.Steps.{number-bad, number-got}
+use Rattle.lines.specs.Scan.{head}
+use Rattle.lines.specs.Laws.{number-lines}
 use Rattle.lines.proofs.Heads as heads
 use Rattle.lines.proofs.read_head.Statement.{statement}
 use Rattle.lines.proofs.read_head.Tie as tie
 
--- the scanners of the two lines
-abbrev f : List ℕ → Got ℕ
-f = keyed (bytes "modulus=") (one-line number)
+-- the two calls, and the start
+abbrev call : tie.After-modulus → tie.After-read-number-line
+call c = c .before .before
 
-abbrev g : List ℕ → Got ℕ
-g = keyed (bytes "degree=") (one-line number)
+abbrev start : tie.After-read-number-line → tie.Start
+start c = c .before .before .before
 
--- the modulus, and that its line is within the text
-found : (c : tie.After-modulus) → f (c .before .before .before .before .before .args .text .now) ≡ got (c .modulus .given .0 .0) (c .modulus .given .0 .1 .0 .at)
+abbrev next : tie.After-degree → tie.After-read-number-line2
+next c = c .before .before
+
+abbrev modulus : tie.After-read-number-line2 → tie.After-modulus
+modulus c = c .before .before .before .before
+
+-- the places behind the lines are within the text
+first-fits : (c : tie.After-modulus) → c .modulus .given .0 .1 .0 .at ≤ length (start (call c) .args .text .now)
 unfolding bytes
-found c = number-got (f (c .before .before .before .before .before .args .text .now)) _ _ _ (c .before .before .read-number-line .ensures) (c .modulus .given .1)
+first-fits c = heads.line-fits (number-lines (bytes "modulus=")) (start (call c) .args .text .now) (call c .read-number-line .ensures) (c .modulus .given .1)
 
-fits : (c : tie.After-modulus) → c .modulus .given .0 .1 .0 .at ≤ length (c .before .before .before .before .before .args .text .now)
-fits c = within (keyeds (bytes "modulus=") (one-lines numbers)) _ _ _ (found c)
-
--- the degree
-found-2 : (c : tie.After-degree) → g (rest (c .before .before .before .before .before .before .before .before .before .before .before .args .text .now) (c .before .before .before .before .before .before .modulus .given .0 .1 .0 .at)) ≡ got (c .degree .given .0 .0) (c .degree .given .0 .1 .0 .at)
+second-fits : (c : tie.After-degree) → let m = modulus (next c) in m .modulus .given .0 .1 .0 .at + c .degree .given .0 .1 .0 .at ≤ length (start (call m) .args .text .now)
 unfolding bytes
-found-2 c = number-got (g (rest (c .before .before .before .before .before .before .before .before .before .before .before .args .text .now) (c .before .before .before .before .before .before .modulus .given .0 .1 .0 .at))) _ _ _ (c .before .before .read-number-line2 .ensures) (c .degree .given .1)
-
-returns : tie.Need-returns
-unfolding head bytes
-returns c = heads.no-first f g (c .before .before .before .before .before .args .text .now) (number-bad (f (c .before .before .before .before .before .args .text .now)) _ (c .before .before .read-number-line .ensures) (c .enum-told .given .1))
-
-sub-read-number-line : tie.Need-sub-read-number-line
-sub-read-number-line c = omega (arith, fits (c .before))
-
-part-read-number-line-start : tie.Need-part-read-number-line-start
-part-read-number-line-start c = omega (arith, fits (c .before))
-
-returns-2 : tie.Need-returns-2
-unfolding head bytes
-returns-2 c = heads.no-second f g (c .before .before .before .before .before .before .before .before .before .before .before .args .text .now) _ _ (found (c .before .before .before .before .before .before)) (number-bad (g (rest (c .before .before .before .before .before .before .before .before .before .before .before .args .text .now) (c .before .before .before .before .before .before .modulus .given .0 .1 .0 .at))) _ (c .before .before .read-number-line2 .ensures) (c .enum-told2 .given .1))
-
-add-t15 : tie.Need-add-t15
-add-t15 c =
-    let t = c .before .before .before .before .before .before .before .before .before .before .before .before .args .text .now in
-    let i = c .before .before .before .before .before .before .before .modulus .given .0 .1 .0 .at in
-    omega (arith, fits (c .before .before .before .before .before .before .before), within (keyeds (bytes "degree=") (one-lines numbers)) _ _ _ (found-2 (c .before)), ap length (rest-is t i), length-drop i t)
-
-returns-3 : tie.Need-returns-3
-unfolding head
-returns-3 c = heads.both-there f g (c .before .before .before .before .before .before .before .before .before .before .before .before .args .text .now) _ _ (found (c .before .before .before .before .before .before .before)) _ _ (found-2 (c .before))
+second-fits c =
+    let m = modulus (next c) in
+    let t = start (call m) .args .text .now in
+    let a = m .modulus .given .0 .1 .0 .at in
+    omega (arith, first-fits m, heads.line-fits (number-lines (bytes "degree=")) (rest t a) (next c .read-number-line2 .ensures) (c .degree .given .1), rest-length t a)
 
 pub read-head-spec : {M : Type 1} → statement M
+unfolding head bytes
 read-head-spec =
-    tie.close
-    (tie.spec
-    (λ c. search needs)
-    (λ c κs. search needs)
-    (λ c. search needs)
-    (λ c. search needs)
-    returns
-    sub-read-number-line
-    part-read-number-line-start
-    (λ c. search needs)
-    (λ c. search needs)
-    (λ c κs. search needs)
-    (λ c. search needs)
-    (λ c. search needs)
-    returns-2
-    add-t15
-    returns-3)
+    tie.close (tie.spec
+    (λ c. search needs) (λ c κs. search needs) (λ c. search needs) (λ c. search needs)
+    (λ c. search heads.no-first)
+    (λ c. omega (arith, first-fits (c .before)))
+    (λ c. omega (arith, first-fits (c .before)))
+    (λ c. search needs) (λ c. search needs) (λ c κs. search needs) (λ c. search needs) (λ c. search needs)
+    (λ c. search heads.no-second)
+    (λ c. omega (arith, second-fits (c .before)))
+    (λ c. search heads.both-there))

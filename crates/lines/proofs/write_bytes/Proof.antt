@@ -1,11 +1,10 @@
--- `lines::write_bytes`: the loop's invariant: the bytes left to write, over those written, are the whole.
+-- The loop's invariant: the bytes left to write, over those written, are the whole. At the end none is left.
 use Prim.Native.Nat.{_+_, _-_, _≤_}
 use mathlib.Core.Path.{_≡_}
 use native.Mathlib.Omega.{arith}
 use lib.ListN.{length, drop}
 use lib.Seq.{sets}
 use borrow.Author.Needs.{needs}
-use Rattle.lines.specs.Lines.{bytes}
 use Rattle.lines.proofs.Writes as writes
 use Rattle.lines.proofs.write_bytes.Statement.{statement}
 use Rattle.lines.proofs.write_bytes.Tie as tie
@@ -16,27 +15,11 @@ Inv-loop out₀ at bytes p₀ i₀ out p i = (i ≤ length bytes) × (p ≡ at +
 abbrev μ-loop : tie.MeasureT-loop
 μ-loop out₀ at bytes p₀ i₀ out p i = length bytes - i
 
-loop-holds : tie.Need-loop-holds Inv-loop μ-loop
-loop-holds c = (search needs, omega arith, search needs, search needs)
-
-loop-again : tie.Need-loop-again Inv-loop μ-loop
-loop-again c = (search needs, omega arith, search needs, search writes.byte-wrote)
-
-returns : tie.Need-returns Inv-loop μ-loop
-returns c = record { text = search writes.bytes-end; place = omega arith }
-
 pub write-bytes-spec : {M : Type 1} → statement M
 write-bytes-spec =
-    tie.close
-    (tie.spec
-    Inv-loop
-    μ-loop
-    loop-holds
+    tie.close (tie.spec Inv-loop μ-loop
+    (λ c. (search needs, omega arith, search needs, search needs))
+    (λ c. search needs) (λ c. search needs) (λ c. search needs) (λ c. search needs) (λ c. search needs)
+    (λ c. (search needs, omega arith, search needs, search writes.byte-wrote))
     (λ c. search needs)
-    (λ c. search needs)
-    (λ c. search needs)
-    (λ c. search needs)
-    (λ c. search needs)
-    loop-again
-    (λ c. search needs)
-    returns)
+    (λ c. record { text = search writes.bytes-end; place = omega arith }))

@@ -1,124 +1,126 @@
--- `records::parse_job`: three lines are read, each in the part behind the one before. Each return is one step of `Parses`: a line that is missing, something behind
--- the last one, another degree, or the job.
-use mathlib.Core.Path.{_≡_, refl, sym, _∙_}
+-- Three lines are read, each in the part behind the one before. Each return is one step of `Parses`: a line that is missing, something
+-- behind the last one, another degree, or the job.
+use mathlib.Core.Path.{_≡_, sym, _∙_, ap}
+use mathlib.Core.List.{List}
+use Prim.Native.Nat.{ℕ}
 use native.Mathlib.Omega.{arith}
 use lib.ListN.{length, take}
 use borrow.Author.Needs.{needs}
-use Rattle.decimal.specs.Scan.{Filled, got, value}
+use Rattle.limits.specs.Limits.{most-numbers}
+use Rattle.decimal.proofs.ListSteps.{rest}
 use Rattle.lines.specs.Lines.{bytes}
-use Rattle.lines.specs.Scan.{head}
-use Rattle.lines.specs.Laws.{heads, within}
-use Rattle.lines.proofs.Steps.{filled-bad, filled-count}
-use Rattle.lines.proofs.Heads.{head-bad, head-got}
-use Rattle.records.specs.Scan.{coeffs-line, job-count, job-made, weights-line}
+use Rattle.lines.specs.Scan.{head, head-of}
+use Rattle.lines.specs.Laws.{heads}
+use Rattle.records.specs.Scan.{coeffs-line, job-format, weights-line}
 use Rattle.records.specs.Laws.{coeffs-lines, weights-lines}
-use Rattle.records.proofs.Parses.{Line, behind}
+use Rattle.records.proofs.Parses.{LineRead}
 use Rattle.records.proofs.Parses as parses
 use Rattle.records.proofs.parse_job.Statement.{statement}
 use Rattle.records.proofs.parse_job.Tie as tie
 
-started : (c : tie.After-modulus) → head (c .before .before .before .before .before .args .text .now) ≡ got (c .modulus .given .0 .0, c .modulus .given .0 .1 .0) (c .modulus .given .0 .1 .1 .0 .at)
-started c = head-got (head (c .before .before .before .before .before .args .text .now)) _ _ _ _ (c .before .before .read-head .ensures) (c .modulus .given .1)
+-- ---- the call for each line, what it found, and the way back to the line before it
+abbrev start : tie.After-read-head → tie.Start
+start c = c .before .before .before
 
--- the lines that were read, each with the part behind it: the head, the coefficients, the weights
-abbrev start : (c : tie.After-modulus) → Line head (c .before .before .before .before .before .args .text .now)
-start c = record { value = (c .modulus .given .0 .0, c .modulus .given .0 .1 .0); place = c .modulus .given .0 .1 .1 .0 .at; found = started c; fits = within heads _ _ _ (started c) }
+abbrev head-call : tie.After-modulus → tie.After-read-head
+head-call c = c .before .before
 
-coeffs-there : (c : tie.After-n) → Filled (coeffs-line 64 (behind (start (c .before .before .before .before .before .before .before .before .before)))) (c .before .before .before .before .read-numbers-line .result) (c .before .before .before .before .read-numbers-line .last .1 .1 .0)
+abbrev modulus : tie.After-read-numbers-line → tie.After-modulus
+modulus c = let part = c .before .before .before in part .before .before
+
+abbrev coeffs-call : tie.After-n → tie.After-read-numbers-line
+coeffs-call c = c .before .before .before .before
+
+abbrev count : tie.After-read-signeds-line → tie.After-n
+count c = let part = c .before .before .before in part .before .before
+
+abbrev weights-call : tie.After-m → tie.After-read-signeds-line
+weights-call c = c .before .before .before
+
+-- ---- the three texts: the whole, and what is left behind one line and behind two
+abbrev text : tie.After-modulus → List ℕ
+text c = start (head-call c) .args .text .now
+
+abbrev text-2 : tie.After-modulus → List ℕ
+text-2 c = rest (text c) (c .modulus .given .0 .1 .1 .0 .at)
+
+abbrev text-3 : tie.After-n → List ℕ
+text-3 c = rest (text-2 (modulus (coeffs-call c))) (c .n .given .0 .1 .0 .at)
+
+-- ---- the lines that were read
+head-line : (c : tie.After-modulus) → let v = c .modulus .given .0 in LineRead head (text c) (v .0, v .1 .0) (v .1 .1 .0 .at)
+head-line c = parses.line-read heads (text c) (sym (head-call c .read-head .ensures) ∙ ap head-of (c .modulus .given .1))
+
+coeffs : (c : tie.After-n) → let r = coeffs-call c in
+    LineRead (coeffs-line most-numbers) (text-2 (modulus r)) (take (c .n .given .0 .0) (r .read-numbers-line .last .1 .1 .0)) (c .n .given .0 .1 .0 .at)
 unfolding bytes
-coeffs-there c = parses.coeffs-filled 64 _ (behind (start (c .before .before .before .before .before .before .before .before .before))) _ _ (c .before .before .before .before .before .before .before .before .before .before .before .before .before .before .pre .0) (c .before .before .before .before .read-numbers-line .ensures)
+coeffs c =
+    let r = coeffs-call c in
+    let m = modulus r in
+    parses.list-there (parses.coeffs-read most-numbers (text-2 m) (start (head-call m) .pre .0) (r .read-numbers-line .ensures)) (coeffs-lines most-numbers) (c .n .given .1)
 
-abbrev coeffs : (c : tie.After-n) → Line (coeffs-line 64) (behind (start (c .before .before .before .before .before .before .before .before .before)))
-coeffs c = parses.listed (coeffs-lines 64) (behind (start (c .before .before .before .before .before .before .before .before .before))) _ _ _ (c .before .before .before .before .read-numbers-line .last .1 .1 .0) (coeffs-there c) (c .n .given .1)
-
-weights-there : (c : tie.After-m) → Filled (weights-line (behind (coeffs (c .before .before .before .before .before .before .before .before)))) (c .before .before .before .read-signeds-line .result) (c .before .before .before .read-signeds-line .last .1 .1 .0)
+weights : (c : tie.After-m) → let r = weights-call c in
+    LineRead weights-line (text-3 (count r)) (take (c .m .given .0 .0) (r .read-signeds-line .last .1 .1 .0)) (c .m .given .0 .1 .0 .at)
 unfolding bytes
-weights-there c = parses.weights-filled _ (behind (coeffs (c .before .before .before .before .before .before .before .before))) _ _ (c .before .before .before .before .before .before .before .before .before .before .before .before .before .before .before .before .before .before .before .before .before .before .pre .1) (c .before .before .before .read-signeds-line .ensures)
+weights c =
+    let r = weights-call c in
+    let n = count r in
+    parses.list-there (parses.weights-read (text-3 n) (start (head-call (modulus (coeffs-call n))) .pre .1) (r .read-signeds-line .ensures)) weights-lines (c .m .given .1)
 
-abbrev weights : (c : tie.After-m) → Line weights-line (behind (coeffs (c .before .before .before .before .before .before .before .before)))
-weights c = parses.listed weights-lines (behind (coeffs (c .before .before .before .before .before .before .before .before))) _ _ _ (c .before .before .before .read-signeds-line .last .1 .1 .0) (weights-there c) (c .m .given .1)
+coeffs-count : (c : tie.After-n) → length (take (c .n .given .0 .0) (coeffs-call c .read-numbers-line .last .1 .1 .0)) ≡ c .n .given .0 .0
+coeffs-count c = parses.counted (coeffs-call c .read-numbers-line .ensures) (c .n .given .1)
 
-counted : (c : tie.After-n) → length (take (c .n .given .0 .0) (c .before .before .before .before .read-numbers-line .last .1 .1 .0)) ≡ c .n .given .0 .0
-counted c = filled-count (coeffs-line 64 (behind (start (c .before .before .before .before .before .before .before .before .before)))) _ _ _ _ (coeffs-there c) (c .n .given .1)
+-- all three
+module _ (c : tie.After-m) where
+  abbrev at-n : tie.After-n
+  at-n = count (weights-call c)
 
-counted-weights : (c : tie.After-m) → length (take (c .m .given .0 .0) (c .before .before .before .read-signeds-line .last .1 .1 .0)) ≡ c .m .given .0 .0
-counted-weights c = filled-count (weights-line (behind (coeffs (c .before .before .before .before .before .before .before .before)))) _ _ _ _ (weights-there c) (c .m .given .1)
-
-returns : tie.Need-returns
-returns c = parses.job-none (c .before .before .before .before .before .before .args .text .now) _ _ _ (parses.no-start head (coeffs-line 64) weights-line job-count job-made (c .before .before .before .before .before .before .args .text .now) (head-bad (head (c .before .before .before .before .before .before .args .text .now)) _ (c .before .before .before .read-head .ensures) (c .before .enum-told .given .1))) (c .refused-job .ensures)
-
-sub-first : tie.Need-sub-first
-sub-first c = omega (arith, start (c .before) .fits)
-
-part-first-start : tie.Need-part-first-start
-part-first-start c = omega (arith, start (c .before) .fits)
-
-returns-2 : tie.Need-returns-2
-unfolding bytes
-returns-2 c =
-    let s = start (c .before .before .before .before .before .before .before .before .before .before) in
-    parses.job-none (c .before .before .before .before .before .before .before .before .before .before .before .before .before .before .before .args .text .now) _ _ _ (parses.no-first head (coeffs-line 64) weights-line job-count job-made (c .before .before .before .before .before .before .before .before .before .before .before .before .before .before .before .args .text .now) s (filled-bad (coeffs-line 64 (behind s)) _ _ (parses.coeffs-filled 64 _ (behind s) _ _ (c .before .before .before .before .before .before .before .before .before .before .before .before .before .before .before .pre .0) (c .before .before .before .before .before .read-numbers-line .ensures)) (c .before .enum-told2 .given .1))) (c .refused-job2 .ensures)
-
-sub-second : tie.Need-sub-second
-sub-second c = omega (arith, coeffs (c .before) .fits)
-
-part-second-start : tie.Need-part-second-start
-part-second-start c = omega (arith, coeffs (c .before) .fits)
-
-returns-3 : tie.Need-returns-3
-unfolding bytes
-returns-3 c =
-    let a = coeffs (c .before .before .before .before .before .before .before .before .before) in
-    parses.job-none (c .before .before .before .before .before .before .before .before .before .before .before .before .before .before .before .before .before .before .before .before .before .before .before .args .text .now) _ _ _ (parses.no-second head (coeffs-line 64) weights-line job-count job-made (c .before .before .before .before .before .before .before .before .before .before .before .before .before .before .before .before .before .before .before .before .before .before .before .args .text .now) (start (c .before .before .before .before .before .before .before .before .before .before .before .before .before .before .before .before .before .before)) a (filled-bad (weights-line (behind a)) _ _ (parses.weights-filled _ (behind a) _ _ (c .before .before .before .before .before .before .before .before .before .before .before .before .before .before .before .before .before .before .before .before .before .before .before .pre .1) (c .before .before .before .before .read-signeds-line .ensures)) (c .before .enum-told3 .given .1))) (c .refused-job3 .ensures)
-
-returns-4 : tie.Need-returns-4
-returns-4 c = parses.job-none (c .before .before .before .before .before .before .before .before .before .before .before .before .before .before .before .before .before .before .before .before .before .before .before .before .before .args .text .now) _ _ _ (parses.more-behind head (coeffs-line 64) weights-line job-count job-made (c .before .before .before .before .before .before .before .before .before .before .before .before .before .before .before .before .before .before .before .before .before .before .before .before .before .args .text .now) (start (c .before .before .before .before .before .before .before .before .before .before .before .before .before .before .before .before .before .before .before .before)) (coeffs (c .before .before .before .before .before .before .before .before .before .before .before)) (weights (c .before .before .before)) (c .before .if1 .taken)) (c .refused-job4 .ensures)
-
-returns-5 : tie.Need-returns-5
-returns-5 c = parses.job-none (c .before .before .before .before .before .before .before .before .before .before .before .before .before .before .before .before .before .before .before .before .before .before .before .before .before .before .args .text .now) _ _ _ (parses.other-degree head (coeffs-line 64) weights-line job-count job-made (c .before .before .before .before .before .before .before .before .before .before .before .before .before .before .before .before .before .before .before .before .before .before .before .before .before .before .args .text .now) (start (c .before .before .before .before .before .before .before .before .before .before .before .before .before .before .before .before .before .before .before .before .before)) (coeffs (c .before .before .before .before .before .before .before .before .before .before .before .before)) (weights (c .before .before .before .before)) (c .before .before .if1 .left) (λ q. c .before .if2 .taken (q ∙ counted (c .before .before .before .before .before .before .before .before .before .before .before .before)))) (c .refused-job5 .ensures)
-
-returns-6 : tie.Need-returns-6
-returns-6 c = parses.job-some (c .before .before .before .before .before .before .before .before .before .before .before .before .before .before .before .before .before .before .before .before .before .before .before .before .before .args .text .now) _ _ _ _ _ _ (parses.record-read head (coeffs-line 64) weights-line job-count job-made (c .before .before .before .before .before .before .before .before .before .before .before .before .before .before .before .before .before .before .before .before .before .before .before .before .before .args .text .now) (start (c .before .before .before .before .before .before .before .before .before .before .before .before .before .before .before .before .before .before .before .before)) (coeffs (c .before .before .before .before .before .before .before .before .before .before .before)) (weights (c .before .before .before)) (c .before .if1 .left) (c .if2 .left ∙ sym (counted (c .before .before .before .before .before .before .before .before .before .before .before)))) (counted (c .before .before .before .before .before .before .before .before .before .before .before)) (counted-weights (c .before .before .before)) refl
+  abbrev at-modulus : tie.After-modulus
+  at-modulus = modulus (coeffs-call at-n)
 
 pub parse-job-spec : {M : Type 1} → statement M
+unfolding bytes
 parse-job-spec =
-    tie.close
-    (tie.spec
-    (λ c κs. search needs)
+    tie.close (tie.spec
+    (λ c κs. search needs) (λ c. search needs) (λ c. search needs) (λ c κs. search needs)
+    (λ c.
+    let call = c .before .before .before in
+    let t = start call .args .text .now in
+    parses.job-none t (parses.no-head job-format t (sym (call .read-head .ensures) ∙ ap head-of (c .before .enum-told .given .1))) (c .refused-job .ensures))
+    (λ c. omega (arith, head-line (c .before) .fits))
+    (λ c. omega (arith, head-line (c .before) .fits))
+    (λ c. search needs) (λ c. search needs) (λ c κs. search needs) (λ c. search needs) (λ c. search needs) (λ c κs. search needs) (λ c. search needs)
+    (λ c.
+    let told = c .before in
+    let call = told .before .before .before .before in
+    let m = modulus call in
+    parses.job-none (text m) (parses.no-first job-format (text m) (head-line m)
+    (parses.no-list (parses.coeffs-read most-numbers (text-2 m) (start (head-call m) .pre .0) (call .read-numbers-line .ensures)) (told .enum-told2 .given .1))) (c .refused-job2 .ensures))
+    (λ c. omega (arith, coeffs (c .before) .fits))
+    (λ c. omega (arith, coeffs (c .before) .fits))
+    (λ c. search needs) (λ c. search needs) (λ c κs. search needs) (λ c. search needs) (λ c. search needs) (λ c κs. search needs) (λ c. search needs)
     (λ c. search needs)
-    (λ c. search needs)
-    (λ c κs. search needs)
-    returns
-    sub-first
-    part-first-start
-    (λ c. search needs)
-    (λ c. search needs)
-    (λ c κs. search needs)
-    (λ c. search needs)
-    (λ c. search needs)
-    (λ c κs. search needs)
-    (λ c. search needs)
-    returns-2
-    sub-second
-    part-second-start
-    (λ c. search needs)
-    (λ c. search needs)
-    (λ c κs. search needs)
-    (λ c. search needs)
-    (λ c. search needs)
-    (λ c κs. search needs)
-    (λ c. search needs)
-    (λ c. search needs)
-    returns-3
-    (λ c κs. search needs)
-    (λ c. search needs)
-    (λ c. search needs)
-    returns-4
-    (λ c. search needs)
-    (λ c κs. search needs)
-    (λ c. search needs)
-    (λ c. search needs)
-    returns-5
-    (λ c. search needs)
-    (λ c. search needs)
-    returns-6)
+    (λ c.
+    let told = c .before in
+    let call = told .before .before .before in
+    let n = count call in
+    let m = modulus (coeffs-call n) in
+    parses.job-none (text m) (parses.no-second job-format (text m) (head-line m) (coeffs n)
+    (parses.no-list (parses.weights-read (text-3 n) (start (head-call m) .pre .1) (call .read-signeds-line .ensures)) (told .enum-told3 .given .1))) (c .refused-job3 .ensures))
+    (λ c κs. search needs) (λ c. search needs) (λ c. search needs)
+    (λ c.
+    let w = c .before .before .before in
+    let m = at-modulus w in
+    parses.job-none (text m) (parses.more-behind job-format (text m) (head-line m) (coeffs (at-n w)) (weights w) (c .before .if1 .taken)) (c .refused-job4 .ensures))
+    (λ c. search needs) (λ c κs. search needs) (λ c. search needs) (λ c. search needs)
+    (λ c.
+    let w = c .before .before .before .before in
+    let m = at-modulus w in
+    parses.job-none (text m) (parses.other-degree job-format (text m) (head-line m) (coeffs (at-n w)) (weights w) (c .before .before .if1 .left)
+    (λ q. c .before .if2 .taken (q ∙ coeffs-count (at-n w)))) (c .refused-job5 .ensures))
+    (λ c. search needs) (λ c. search needs)
+    (λ c.
+    let w = c .before .before .before in
+    let m = at-modulus w in
+    parses.job-some (text m) (parses.record-read job-format (text m) (head-line m) (coeffs (at-n w)) (weights w) (c .before .if1 .left) (c .if2 .left ∙ sym (coeffs-count (at-n w))))
+    (coeffs-count (at-n w)) (parses.counted (weights-call w .read-signeds-line .ensures) (w .m .given .1))))

@@ -1,30 +1,18 @@
--- `records::read_answer`: as `read_job`, with one slice.
+-- The slice is tested, then the text is read into an array of the function's own. A refusal has a count of zero, so what is copied is
+-- nothing.
 use native.Mathlib.Omega.{arith}
 use borrow.Author.Needs.{needs}
-use Rattle.records.specs.Promises.{AnswerRoom, answer-filled, answer-read, no-answer}
-use Rattle.records.specs.Laws.{answers}
+use Rattle.records.specs.Promises.{answer-kind}
 use Rattle.records.proofs.Outcomes as outcomes
 use Rattle.records.proofs.read_answer.Statement.{statement}
 use Rattle.records.proofs.read_answer.Tie as tie
 
-returns : tie.Need-returns
-returns c = outcomes.too-short answers AnswerRoom no-answer answer-read answer-filled (c .before .before .before .before .args .text .now) (c .before .before .before .before .args .coeffs .now) _ (λ o. omega (arith, o, c .before .if1 .taken)) (c .refused-answer .ensures)
-
-copy-words-requires : tie.Need-copy-words-requires
-copy-words-requires c κs = omega (arith, outcomes.answer-counts (c .before .before .before .before .before .before .before .before .args .text .now) _ _ (c .before .before .before .parse-answer .ensures), c .before .before .before .parse-answer .kept, c .before .before .before .before .before .if1 .left)
-
-returns-2 : tie.Need-returns-2
-returns-2 c = outcomes.answer-copied (c .before .before .before .before .before .before .before .before .before .before .before .args .text .now) _ _ _ _ (c .before .before .before .before .before .before .before .before .if1 .left) (c .before .before .copy-words .ensures) (c .before .before .before .before .before .before .parse-answer .ensures)
-
 pub read-answer-spec : {M : Type 1} → statement M
 read-answer-spec =
-    tie.close
-    (tie.spec
+    tie.close (tie.spec
     (λ c κs. search needs)
-    returns
+    (λ c. outcomes.too-short answer-kind (λ room. omega arith) (c .refused-answer .ensures))
+    (λ c. search needs) (λ c κs. search needs) (λ c. search needs)
+    (λ c κs. let call = c .before .before .before in omega (arith, outcomes.answer-count _ (call .parse-answer .ensures), call .parse-answer .kept, call .before .before .if1 .left))
     (λ c. search needs)
-    (λ c κs. search needs)
-    (λ c. search needs)
-    copy-words-requires
-    (λ c. search needs)
-    returns-2)
+    (λ c. search outcomes.answer-copied))

@@ -14,15 +14,9 @@ abbrev μ-loop : tie.MeasureT-loop
 
 pub clear-spec : {M : Type 1} → statement M
 clear-spec =
-    tie.close
-    (tie.spec
-    Inv-loop
-    μ-loop
+    tie.close (tie.spec Inv-loop μ-loop
     (λ c. (omega arith, cleared-none _))
-    (λ c. omega arith)
-    (λ c. omega arith)
-    (λ c. omega arith)
-    (λ c. omega arith)
+    (λ c. omega arith) (λ c. omega arith) (λ c. omega arith) (λ c. omega arith)
     (λ c. (omega arith, cleared-more (c .before .loop .k) _ (c .before .loop .work) (omega arith) (c .before .loop .inv .1)))
     (λ c. c .before .loop .inv .1 .same)
     (λ c. rw (le-antisymm (c .before .loop .inv .0) (c .loop-test .left)) at (c .before .loop .inv .1)))

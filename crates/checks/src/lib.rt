@@ -1,0 +1,1 @@
+// How refusals are decided is specifications only.
