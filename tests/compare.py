@@ -285,21 +285,35 @@ DAMAGES = [cut, cut_in_front, without_line_feed, doubled, change_byte, change_di
            surround, line_ends, move_lines, key_changes, odd_number, leading_zeros, overlong, wrong_degree]
 
 
+def largest():
+    """Jobs with the most lists and the most placements; the last has the longest answer of 3,000 that were drawn, with 990 coefficients."""
+    p, shapes = 2147483647, [(6, [1, 2, 3, 4, 5, 6]), (6, [1, -1, 2, -2, 3, -3]), (7, [1, 1, 1, 2, 3, -1]), (12, [1] * 6), (11, [1, 2, 3])]
+    for n, weights in shapes:
+        rng = random.Random(596)
+        yield text_of(p, [rng.randrange(p) for _ in range(n)], weights)
+
+
+LONGEST = 10493  # the bytes of the last one's answer
+
+
 def all_jobs():
     rng = random.Random(20240101)
-    return [job for draw in (answered, too_many, sweeps, broken, damaged) for job in draw(rng)] + [b'']
+    return [job for draw in (answered, too_many, sweeps, broken, damaged) for job in draw(rng)] + [b'', *largest()]
 
 
-def run(command, dribble=False):
+def run(command, dribble=False, wanted=lambda text: True):
+    """Takes the jobs that are wanted."""
     tally = harness.Tally()
     seen = collections.Counter()
-    for k, job in enumerate(all_jobs()):
-        if dribble and k % 16:
+    jobs = all_jobs()
+    for k, job in enumerate(jobs):
+        if (dribble and k % 16 and k + 1 < len(jobs)) or not wanted(job):
             continue
         want = second.answer(job)
         seen[want.decode().strip() if want.startswith(b'refused') else 'answered'] += 1
         got = harness.output(command, job, dribble)
         tally.equal('job %d %s' % (k, harness.shorten(job, 2000)), got, want)
+    tally.equal('bytes of the longest answer', len(want), LONGEST)
     print('expected: ' + ', '.join('%s %d' % pair for pair in sorted(seen.items())))
     return tally
 

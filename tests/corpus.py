@@ -11,11 +11,15 @@ import sys
 import harness
 
 JOBS = pathlib.Path(__file__).resolve().parent / 'corpus'
+COUNT = 245
 
 
-def run(command, dribble=False):
+def run(command, dribble=False, wanted=lambda text: True):
+    """Takes the jobs that are wanted."""
     tally = harness.Tally()
-    for job in sorted(JOBS.glob('*.job')):
+    jobs = sorted(JOBS.glob('*.job'))
+    tally.equal('number of jobs', len(jobs), COUNT)
+    for job in (job for job in jobs if wanted(job.read_bytes())):
         tally.equal(job.name, harness.output(command, job.read_bytes(), dribble),
                     job.with_suffix('.out').read_bytes())
     return tally

@@ -41,16 +41,17 @@ def shorten(value, length=400):
 
 
 def output(command, data, dribble=False):
-    """What the command writes when it reads these bytes, or the signal that ended it."""
-    process = subprocess.Popen(command, stdin=subprocess.PIPE, stdout=subprocess.PIPE, bufsize=0)
+    """What the command writes when it reads these bytes; or, where that is not all that there is to say, its exit status and what it
+    wrote to standard error."""
+    process = subprocess.Popen(command, stdin=subprocess.PIPE, stdout=subprocess.PIPE, stderr=subprocess.PIPE, bufsize=0)
     guard = threading.Timer(PATIENCE, process.kill)
     guard.start()
     if dribble:
         send_in_pieces(process.stdin, data)
         data = None
-    out, _ = process.communicate(data)
+    out, said = process.communicate(data)
     guard.cancel()
-    return out if process.returncode >= 0 else 'ended by signal %d' % -process.returncode
+    return out if process.returncode == 0 and not said else (out, process.returncode, said)
 
 
 def send_in_pieces(pipe, data, pieces=40, pause=0.0005):

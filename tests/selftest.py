@@ -79,6 +79,25 @@ def tables(tally):
     tally.equal('no weights', second.refusal(257, [256], []), 6)
 
 
+def records(tally):
+    """Document 01's two records, read and written, and texts and values on both sides of each of its limits."""
+    job, answer = (257, [0, 0, 0, 256], [1, 1]), (257, True, [0, 0, 0, 4, 0, 0])
+    texts = b'modulus=257\ndegree=4\ncoeffs=0,0,0,256\nweights=1,1\n', b'modulus=257\ndegree=6\nsimple=yes\ncoeffs=0,0,0,4,0,0\n'
+    tally.equal('the job', (second.read_job(texts[0]), second.write_job(*job)), (job, texts[0]))
+    tally.equal('the answer', (second.read_answer(texts[1]), second.write_answer(*answer)), (answer, texts[1]))
+    for values, good in [((0, [0], [-999]), True), ((0, [0], [1000]), False), ((0, [0], [-1000]), False), ((2 ** 32, [0], [1]), False),
+                         ((1, [2 ** 32 - 1] * 64, [999] * 64), True), ((1, [0] * 65, [1]), False), ((1, [0], [1] * 65), False),
+                         ((1, [], [1]), False), ((1, [1], []), False)]:
+        tally.equal('a job holds %r' % (values,), second.write_job(*values) is not None, good)
+    for values, good in [((0, False, [0]), True), ((0, False, []), False), ((0, True, [2 ** 32]), False), ((0, 2, [1]), False),
+                         ((2 ** 32 - 1, True, [2 ** 32 - 1] * 1024), True), ((1, True, [0] * 1025), False)]:
+        tally.equal('an answer holds %s' % harness.shorten(values), second.write_answer(*values) is not None, good)
+    longest = second.write_job(2 ** 32 - 1, [2 ** 32 - 1] * 64, [-999] * 64), second.write_answer(2 ** 32 - 1, True, [2 ** 32 - 1] * 1024)
+    tally.equal('bytes of the longest records', tuple(map(len, longest)), (1068, 11313))
+    for old, new in [(b'yes', b'Yes'), (b'yes', b''), (b'=6', b'=5'), (b'=6', b'=06'), (b'4', b'-4'), (b'\n', b'\r\n'), (b',0,0\n', b',0,0')]:
+        tally.equal('an answer with %r for %r' % (new, old), second.read_answer(texts[1].replace(old, new)), None)
+
+
 def known_roots(tally):
     """Every factoring with every list, the larger products left out."""
     rng = random.Random(1981)
@@ -107,6 +126,7 @@ def one_polynomial(tally, ring, zeros, weights):
 def run():
     tally = harness.Tally()
     tables(tally)
+    records(tally)
     known_roots(tally)
     most_placements(tally)
     return tally
