@@ -63,21 +63,17 @@ fn told(name: &[u8], r: Outcome, out: &[u32]) {
 }
 
 // A call with as much room as any call needs.
-fn call(name: &[u8], p: u32, f: &[u32], list: Weights) {
+fn job(name: &[u8], p: u32, f: &[u32], len: usize, places: [i32; limits::CAPACITY]) {
     let mut out = [7u32; limits::MOST_PLACEMENTS];
     let mut work = [7u32; limits::LARGEST_ROOM];
-    let r = resolvents::resolvent(p, f, list, &mut out, &mut work);
+    let r = resolvents::resolvent(p, f, Weights { places, len }, &mut out, &mut work);
     told(name, r, &out);
 }
 
-fn job(name: &[u8], p: u32, f: &[u32], weights: &[i32]) {
-    call(name, p, f, Weights::of(weights));
-}
-
 // Case C's f with two weights and the room that is lent, and what is left there.
-fn lent(name: &[u8], weights: &[i32], out: &mut [u32], work: &mut [u32]) {
+fn lent(name: &[u8], places: [i32; limits::CAPACITY], out: &mut [u32], work: &mut [u32]) {
     let f = [254u32, 2];
-    let r = resolvents::resolvent(257, &f, Weights::of(weights), out, work);
+    let r = resolvents::resolvent(257, &f, Weights { places, len: 2 }, out, work);
     told(name, r, out);
     say(b"  output ");
     words(out, out.len());
@@ -87,32 +83,32 @@ fn lent(name: &[u8], weights: &[i32], out: &mut [u32], work: &mut [u32]) {
 }
 
 fn cases() {
-    job(b"A", 257, &[254], &[5]);
-    job(b"B", 257, &[254, 2], &[1, 1]);
-    job(b"C", 257, &[254, 2], &[1, 2]);
-    job(b"D", 257, &[254, 2], &[1, -1]);
-    job(b"E", 257, &[255, 1], &[1, -1]);
-    job(b"F", 257, &[0, 254], &[1, -1]);
+    job(b"A", 257, &[254], 1, [5, 0, 0, 0, 0, 0]);
+    job(b"B", 257, &[254, 2], 2, [1, 1, 0, 0, 0, 0]);
+    job(b"C", 257, &[254, 2], 2, [1, 2, 0, 0, 0, 0]);
+    job(b"D", 257, &[254, 2], 2, [1, -1, 0, 0, 0, 0]);
+    job(b"E", 257, &[255, 1], 2, [1, -1, 0, 0, 0, 0]);
+    job(b"F", 257, &[0, 254], 2, [1, -1, 0, 0, 0, 0]);
 }
 
 fn more_cases() {
-    job(b"G", 257, &[0, 0, 256], &[1, 1]);
-    job(b"H", 257, &[251, 11, 251], &[1, 1]);
-    job(b"I", 257, &[251, 11, 251], &[1, 1, 1]);
-    job(b"J", 257, &[251, 11, 251], &[2, 1]);
-    job(b"K", 257, &[0, 0, 0, 256], &[1, 1]);
-    job(b"L", 257, &[0, 0, 0, 1], &[1, 1]);
+    job(b"G", 257, &[0, 0, 256], 2, [1, 1, 0, 0, 0, 0]);
+    job(b"H", 257, &[251, 11, 251], 2, [1, 1, 0, 0, 0, 0]);
+    job(b"I", 257, &[251, 11, 251], 3, [1, 1, 1, 0, 0, 0]);
+    job(b"J", 257, &[251, 11, 251], 2, [2, 1, 0, 0, 0, 0]);
+    job(b"K", 257, &[0, 0, 0, 256], 2, [1, 1, 0, 0, 0, 0]);
+    job(b"L", 257, &[0, 0, 0, 1], 2, [1, 1, 0, 0, 0, 0]);
 }
 
 // x^4 - 1 with the weights 1,1, at moduli around the least and the largest.
 fn moduli() {
     let f = [0u32, 0, 0, 256];
-    let pair = [1i32, 1];
-    job(b"251", 251, &f, &pair);
-    job(b"257", 257, &f, &pair);
-    job(b"259", 259, &f, &pair);
-    job(b"2147483647", 2147483647, &f, &pair);
-    job(b"2147483648", 2147483648, &f, &pair);
+    let pair = [1i32, 1, 0, 0, 0, 0];
+    job(b"251", 251, &f, 2, pair);
+    job(b"257", 257, &f, 2, pair);
+    job(b"259", 259, &f, 2, pair);
+    job(b"2147483647", 2147483647, &f, 2, pair);
+    job(b"2147483648", 2147483648, &f, 2, pair);
 }
 
 // Numbers of placements around 1,024 and around p.
@@ -121,17 +117,17 @@ fn numbers() {
     let ten = [1u32, 2, 3, 4, 5, 6, 7, 8, 9, 10];
     let eleven = [1u32, 2, 3, 4, 5, 6, 7, 8, 9, 10, 11];
     let twelve = [1u32, 2, 3, 4, 5, 6, 7, 8, 9, 10, 11, 12];
-    let ones = [1i32; 7];
-    let one_two_three = [1i32, 2, 3];
-    let wide = [16i32, -16, 1, 1];
-    job(b"924 at 257", 257, &twelve, &ones[..6]);
-    job(b"924 at 1009", 1009, &twelve, &ones[..6]);
-    job(b"990 at 1009", 1009, &eleven, &one_two_three);
-    job(b"1320 at 1009", 1009, &twelve, &one_two_three);
-    job(b"1320 at 257", 257, &twelve, &one_two_three);
-    job(b"252 at 257", 257, &ten, &ones[..5]);
-    job(b"336 at 257", 257, &eight, &one_two_three);
-    job(b"840 at 2147483647", 2147483647, &eight, &wide);
+    let ones = [1i32; 6];
+    let one_two_three = [1i32, 2, 3, 0, 0, 0];
+    let wide = [16i32, -16, 1, 1, 0, 0];
+    job(b"924 at 257", 257, &twelve, 6, ones);
+    job(b"924 at 1009", 1009, &twelve, 6, ones);
+    job(b"990 at 1009", 1009, &eleven, 3, one_two_three);
+    job(b"1320 at 1009", 1009, &twelve, 3, one_two_three);
+    job(b"1320 at 257", 257, &twelve, 3, one_two_three);
+    job(b"252 at 257", 257, &ten, 5, ones);
+    job(b"336 at 257", 257, &eight, 3, one_two_three);
+    job(b"840 at 2147483647", 2147483647, &eight, 4, wide);
 }
 
 // Degrees and counts of weights at their bounds.
@@ -141,26 +137,26 @@ fn counts() {
     let six = [1u32, 2, 3, 4, 5, 6];
     let seven = [1u32; 7];
     let thirteen = [1u32; 13];
-    let ones = [1i32; 7];
-    job(b"n = 0", 257, &none, &ones[..2]);
-    job(b"n = 13", 257, &thirteen, &ones[..2]);
-    job(b"r = 0", 257, &two, &ones[..0]);
-    job(b"r = 7", 257, &seven, &ones[..7]);
-    job(b"r = 3 above n = 2", 257, &two, &ones[..3]);
-    job(b"r = n = 6", 257, &six, &ones[..6]);
+    let ones = [1i32; 6];
+    job(b"n = 0", 257, &none, 2, ones);
+    job(b"n = 13", 257, &thirteen, 2, ones);
+    job(b"r = 0", 257, &two, 0, ones);
+    job(b"r = 7", 257, &seven, 7, ones);
+    job(b"r = 3 above n = 2", 257, &two, 3, ones);
+    job(b"r = n = 6", 257, &six, 6, ones);
 }
 
 // Weights and coefficients at theirs.
 fn sizes() {
     let two = [254u32, 2];
-    let ones = [1i32; 7];
-    job(b"weight 0", 257, &two, &[0]);
-    job(b"weight 16", 257, &two, &[16]);
-    job(b"weight 17", 257, &two, &[17]);
-    job(b"weight -16", 257, &two, &[-16]);
-    job(b"weight -17", 257, &two, &[-17]);
-    job(b"coefficient 256", 257, &[256, 2], &ones[..2]);
-    job(b"coefficient 257", 257, &[254, 257], &ones[..2]);
+    let ones = [1i32; 6];
+    job(b"weight 0", 257, &two, 1, [0; 6]);
+    job(b"weight 16", 257, &two, 1, [16; 6]);
+    job(b"weight 17", 257, &two, 1, [17; 6]);
+    job(b"weight -16", 257, &two, 1, [-16; 6]);
+    job(b"weight -17", 257, &two, 1, [-17; 6]);
+    job(b"coefficient 256", 257, &[256, 2], 2, ones);
+    job(b"coefficient 257", 257, &[254, 257], 2, ones);
 }
 
 // Calls that break several rules: the first in document 01's order tells.
@@ -168,37 +164,34 @@ fn orders() {
     let two = [254u32, 2];
     let many_large = [4294967295u32; 13];
     let twelve = [0u32; 12];
-    let zeros = [0i32; 7];
-    let with_zero = [1i32, 2, 0];
-    job(b"251, weight 0", 251, &two, &zeros[..1]);
-    job(b"n = 13, large coefficients", 257, &many_large, &zeros[..0]);
-    job(b"coefficient 257, no weights", 257, &[257], &zeros[..0]);
-    job(b"r = 7 above n = 2", 257, &two, &zeros[..7]);
-    job(b"r = 3 above n = 2, weights 0", 257, &two, &zeros[..3]);
-    job(b"1320 placements, a weight 0", 257, &twelve, &with_zero);
+    let zeros = [0i32; 6];
+    let with_zero = [1i32, 2, 0, 0, 0, 0];
+    job(b"251, weight 0", 251, &two, 1, zeros);
+    job(b"n = 13, large coefficients", 257, &many_large, 0, zeros);
+    job(b"coefficient 257, no weights", 257, &[257], 0, zeros);
+    job(b"r = 7 above n = 2", 257, &two, 7, zeros);
+    job(b"r = 3 above n = 2, weights 0", 257, &two, 3, zeros);
+    job(b"1320 placements, a weight 0", 257, &twelve, 3, with_zero);
 }
 
 // Places after the r-th count for nothing.
 fn places() {
     let two = [254u32, 2];
-    let mut zeros = Weights::of(&[1, 2, 0, 0, 0, 0]);
-    let mut others = Weights::of(&[1, 2, 99, 0, -7, 2147483647]);
-    zeros.len = 2;
-    others.len = 2;
-    call(b"zeros behind", 257, &two, zeros);
-    call(b"others behind", 257, &two, others);
+    let others = [1i32, 2, 99, 0, -7, 2147483647];
+    job(b"zeros behind", 257, &two, 2, [1, 2, 0, 0, 0, 0]);
+    job(b"others behind", 257, &two, 2, others);
 }
 
 // Lists worked: the number goes by the job's order, and equal collisions are merged.
 fn lists() {
     let six = [1u32, 2, 3, 4, 5, 6];
-    job(b"1,1,1,1,2,-1", 1009, &six, &[1, 1, 1, 1, 2, -1]);
-    job(b"-1,2,1,1,1,1", 1009, &six, &[-1, 2, 1, 1, 1, 1]);
-    job(b"no sums equal", 1009, &six, &[1, 2, 4, 8, 16, -5]);
+    job(b"1,1,1,1,2,-1", 1009, &six, 6, [1, 1, 1, 1, 2, -1]);
+    job(b"-1,2,1,1,1,1", 1009, &six, 6, [-1, 2, 1, 1, 1, 1]);
+    job(b"no sums equal", 1009, &six, 6, [1, 2, 4, 8, 16, -5]);
 }
 
-fn cost(name: &[u8], weights: &[i32]) {
-    let told = resolvents::lists_for(weights);
+fn cost(name: &[u8], r: usize, places: [i32; limits::CAPACITY]) {
+    let told = resolvents::lists(Weights { places, len: r });
     say(name);
     say(b": code ");
     number(told.code);
@@ -209,31 +202,31 @@ fn cost(name: &[u8], weights: &[i32]) {
 
 // What a job costs, told without working it: the same numbers, or row 6 or 8.
 fn costs() {
-    cost(b"1,1,1,1,2,-1", &[1, 1, 1, 1, 2, -1]);
-    cost(b"-1,2,1,1,1,1", &[-1, 2, 1, 1, 1, 1]);
-    cost(b"no sums equal", &[1, 2, 4, 8, 16, -5]);
-    cost(b"one weight", &[5]);
-    cost(b"none", &[]);
-    cost(b"seven, of which one is 0", &[0, 1, 1, 1, 1, 1, 1]);
-    cost(b"weight 0", &[1, 0]);
-    cost(b"weight 17", &[17, 1]);
+    cost(b"1,1,1,1,2,-1", 6, [1, 1, 1, 1, 2, -1]);
+    cost(b"-1,2,1,1,1,1", 6, [-1, 2, 1, 1, 1, 1]);
+    cost(b"no sums equal", 6, [1, 2, 4, 8, 16, -5]);
+    cost(b"one weight", 1, [5, 0, 0, 0, 0, 0]);
+    cost(b"none", 0, [1, 1, 1, 1, 1, 1]);
+    cost(b"seven, of which one is 0", 7, [0, 1, 1, 1, 1, 1]);
+    cost(b"weight 0", 2, [1, 0, 1, 1, 1, 1]);
+    cost(b"weight 17", 2, [17, 1, 1, 1, 1, 1]);
 }
 
 // Output and work room: more than enough, one word fewer of each and of both, and exactly enough.
 fn room() {
-    let pair = [1i32, 1];
-    let apart = [1i32, 2];
+    let pair = [1i32, 1, 0, 0, 0, 0];
+    let apart = [1i32, 2, 0, 0, 0, 0];
     let mut out = [7u32, 8, 9, 10];
     let mut work = [7u32; 27];
     let mut two = [7u32; 2];
     let mut enough = [7u32; 36];
     let mut one = [7u32; 1];
     let mut fewer = [7u32; 35];
-    lent(b"words to spare", &pair, &mut out, &mut work);
-    lent(b"one output word fewer", &apart, &mut one, &mut enough);
-    lent(b"one work word fewer", &apart, &mut two, &mut fewer);
-    lent(b"one fewer of each", &apart, &mut one, &mut fewer);
-    lent(b"exactly enough", &apart, &mut two, &mut enough);
+    lent(b"words to spare", pair, &mut out, &mut work);
+    lent(b"one output word fewer", apart, &mut one, &mut enough);
+    lent(b"one work word fewer", apart, &mut two, &mut fewer);
+    lent(b"one fewer of each", apart, &mut one, &mut fewer);
+    lent(b"exactly enough", apart, &mut two, &mut enough);
 }
 
 fn main() {
