@@ -9,7 +9,7 @@ use lib.ListN.{getD}
 abbrev pub Table : Type 0
 Table = List (Bool × ℕ)
 
--- "the number of the first row that applies"
+-- the number of the first row that applies: "no earlier check of its entry applying"
 unfoldable pub first : Table → ℕ
 first [] = 0
 first ((t, k) ∷ rest) = cond t k (first rest)

@@ -38,7 +38,7 @@ room N = work-rows * (N + 1)
 abbrev pub largest-room : ℕ
 largest-room = room most-placements
 
--- "longer than 4,096 bytes"
+-- "at most 4,096 bytes; more is 1"
 abbrev pub longest-text : ℕ
 longest-text = 4096
 

@@ -21,7 +21,8 @@ pub record AnswersAny (text out : List ℕ) (len : ℕ) (out′ : List ℕ) : Ty
   pub put : out′ ≡ over bytes out
 
 -- where the longest answer has room, what `answer_text` promises is this, and its code is 0
-pub room-for-any : (text out : List ℕ) (r : Written) (out′ : List ℕ) → longest-answer ≤ length out → Puts (TextOf text) out r out′ → (r .code ≡ 0) × AnswersAny text out (r .len) out′
+pub room-for-any : (text out : List ℕ) (r : Written) (out′ : List ℕ) → longest-answer ≤ length out → Puts (TextOf text) out r out′
+    → (r .code ≡ 0) × AnswersAny text out (r .len) out′
 room-for-any text out r out′ h p =
     let w = p .put .success (omega (arith, fits text (p .bytes) (p .right))) in (
       ap (λ (x : Written). x .code) (w .0),

@@ -62,8 +62,8 @@ job-counts {cs = cs} {ws} (some j) p =
 job-counts none p = rw (p .other refl) (omega arith)
 
 module _ (t : List ℕ) {r : JobRead} {cs : List ℕ} {ws : List ℤ} (p : Parsed job-kind (read-job t) r (cs, ws)) where
-  pub job-copied : {c₀ c₁ : List ℕ} {w₀ w₁ : List ℤ} → most-numbers ≤ length c₀ → most-numbers ≤ length w₀ → CopiedOver cs (r .degree) c₀ c₁ → CopiedOver ws (r .weights) w₀ w₁ →
-      ReadsJob t (c₀, w₀) r (c₁, w₁)
+  pub job-copied : {c₀ c₁ : List ℕ} {w₀ w₁ : List ℤ} → most-numbers ≤ length c₀ → most-numbers ≤ length w₀ → CopiedOver cs (r .degree) c₀ c₁
+      → CopiedOver ws (r .weights) w₀ w₁ → ReadsJob t (c₀, w₀) r (c₁, w₁)
   job-copied m n f g = read-whole job-kind jobs (m, n) p
       (λ j e. let a = p .values j e in
       rw (front-copied (j .coeffs) f (ap (λ x. x .degree) (a .0)) (ap (λ l. l .0) (a .1)), front-copied (j .weights) g (ap (λ x. x .weights) (a .0)) (ap (λ l. l .1) (a .1))))

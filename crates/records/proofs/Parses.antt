@@ -33,7 +33,8 @@ pub record LineRead {A : Type 0} (scan : List ℕ → Got A) (t : List ℕ) (v :
   pub found : scan t ≡ got v i
   pub fits : i ≤ length t
 
-pub line-read : {A : Type 0} {Ok : A → Type 0} {render : A → List ℕ} {scan : List ℕ → Got A} {v : A} {i : ℕ} → Exact Ok render scan → (t : List ℕ) → scan t ≡ got v i → LineRead scan t v i
+pub line-read : {A : Type 0} {Ok : A → Type 0} {render : A → List ℕ} {scan : List ℕ → Got A} {v : A} {i : ℕ}
+    → Exact Ok render scan → (t : List ℕ) → scan t ≡ got v i → LineRead scan t v i
 line-read {v = v} {i} E t e = record { found = e; fits = within E t v i e }
 
 module _ {A B X : Type 0} (F : Format A B X) (t : List ℕ) where
@@ -110,8 +111,8 @@ pub job-none : (t : List ℕ) {r : JobRead} {arrays : List ℕ × List ℤ} → 
 unfolding read-job
 job-none t e f = parsed-none e f
 
-pub job-some : (t : List ℕ) {cs : List ℕ} {ws : List ℤ} {m n w : ℕ} → read-record job-format t ≡ some (job m (take n cs) (take w ws)) → length (take n cs) ≡ n → length (take w ws) ≡ w →
-    Parsed job-kind (read-job t) (record { code = 0; modulus = m; degree = n; weights = w }) (cs, ws)
+pub job-some : (t : List ℕ) {cs : List ℕ} {ws : List ℤ} {m n w : ℕ} → read-record job-format t ≡ some (job m (take n cs) (take w ws))
+    → length (take n cs) ≡ n → length (take w ws) ≡ w → Parsed job-kind (read-job t) (record { code = 0; modulus = m; degree = n; weights = w }) (cs, ws)
 unfolding read-job
 job-some t {cs} {ws} {m} {n} {w} e p q = parsed-some (job m (take n cs) (take w ws)) e (rw (p, q)) (rw (over-front n cs p, over-front w ws q))
 

@@ -13,7 +13,7 @@ use Rattle.definition.specs.Answer.{resolvent}
 use Rattle.refusals.specs.Refusals.{Call, weights, N, GoodCall}
 use Rattle.refusals.specs.Resolved.{Resolved, resolved-exists, resolved-only}
 
--- "A refused resolvent call returns the number, N = 0 and simple = no. Nothing lent is touched by a refusal."
+-- "A refused resolvent call returns the number, N = 0 and simple = no. .. Nothing lent is touched by a refusal."
 pub record Untouched (c : Call) (count : ℕ) (simple : Bool) (output work : List ℕ) : Type 0 where
   pub no-number : count ≡ 0
   pub no-mark : simple ≡ false

@@ -106,7 +106,8 @@ module _ (entry : Call → Exit) (keeps : Keeps entry) where
       let z : refusal (on-three L) ≡ 0 = ap (λ (o : ℕ × ℕ). o .1) (sym (outcome-is (on-three L))) ∙ h in
       (keeps (on-three L) .code ∙ z, keeps (on-three L) .done z .lists)
 
-  pub order-not-seen : (g : List ℤ → ℕ) → ((L M : List ℤ) → List·Permᴰ L M → g L ≡ g M) → ((c : Call) → entry c .outcome .code ≡ 0 → entry c .outcome .lists ≡ g (weights c)) → ⊥
+  pub order-not-seen : (g : List ℤ → ℕ) → ((L M : List ℤ) → List·Permᴰ L M → g L ≡ g M)
+      → ((c : Call) → entry c .outcome .code ≡ 0 → entry c .outcome .lists ≡ g (weights c)) → ⊥
   unfolding outcome lists lists-up-to different except replaced total ℤ-eq
   order-not-seen g blind h =
       let a = number-on-three (pos 1 ∷ pos 1 ∷ pos 2 ∷ []) refl in

@@ -10,7 +10,8 @@ use Rattle.limits.specs.Limits.{capacity, most-placements}
 use Rattle.refusals.specs.Refusals.{Call}
 use Rattle.refusals.specs.Judged.{given}
 use Rattle.resolvents.specs.Promise.{left}
-use Rattle.resolvents.proofs.Kept.{refused-kept, judged-refused, Passed, good, positive, few, divisor-refused, bounded, counted, lent, divisor, output-room, work-room, product-apart, done-kept}
+use Rattle.resolvents.proofs.Kept.{refused-kept, judged-refused, Passed, good, positive, few, divisor-refused, bounded, counted, lent, divisor}
+use Rattle.resolvents.proofs.Kept.{output-room, work-room, product-apart, done-kept}
 use Rattle.resolvents.proofs.resolvent.Statement.{statement}
 use Rattle.resolvents.proofs.resolvent.Tie as tie
 
