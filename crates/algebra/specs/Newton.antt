@@ -172,6 +172,7 @@ module _ {A : Type 0} {o : Ops A} (l : Laws o) where
   powers_suc (a ∷ xs) k = simp (add_at, geometric_suc, powers_suc xs k, power_sum_cons)
 
   powers_pos : (xs : List A) (k : ℕ) → 0 < k → powers o xs k ≡ power_sum o xs k
+  powers_pos xs zero h = elim h [ ]
   powers_pos xs (suc k) h = powers_suc xs k
 
   -- Newton's identity
