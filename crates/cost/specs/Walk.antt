@@ -6,8 +6,8 @@ use Rattle.limits.specs.Limits.{capacity}
 use Rattle.algebra.specs.Integer.{ℤ_eq}
 use Rattle.placements.specs.Placements.{count, different}
 use Rattle.placements.specs.Places.{with_sum}
-use Rattle.placements.specs.Multiplicity.{different_nil, count_append}
-use Rattle.placements.specs.Merge.{different_new, different_old, different_length, with_sum_first}
+use Rattle.placements.proofs.Multiplicity.{different_nil, count_append}
+use Rattle.placements.proofs.Merge.{different_new, different_old, different_length, with_sum_first}
 use Rattle.weights.specs.declared.Weights.{Weights}
 use Rattle.weights.specs.Lists.{listed}
 use Rattle.weights.specs.Rests.{Rest}

@@ -15,7 +15,7 @@ use Rattle.algebra.specs.Natural.{naturals, naturals_semi}
 use Rattle.algebra.specs.Integer.{ℤ_eq}
 use Rattle.placements.specs.Placements.{count, except, different}
 use Rattle.placements.specs.Places.{replaced}
-use Rattle.placements.specs.Merge.{replaced_length, different_length, merge}
+use Rattle.placements.proofs.Merge.{replaced_length, different_length, merge}
 use Rattle.definition.specs.Definition.{Rule₂}
 use Rattle.definition.specs.Rules.{by_length, spread_cong, T, T_meets, same_T}
 use Rattle.definition.specs.Order.{powers_times, T_mix, T_perm}

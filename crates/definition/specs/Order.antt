@@ -17,8 +17,8 @@ use Rattle.algebra.specs.Sum.{total, total_add, total_neg}
 use Rattle.algebra.specs.Binomial.{expand}
 use Rattle.algebra.specs.Mix.{mix, mix_add, mix_neg, mix_total, mix_swap}
 use Rattle.algebra.specs.Natural.{strong}
-use Rattle.placements.specs.Laying.{collisions, collisions_cons}
-use Rattle.placements.specs.Collisions.{collisions_places, collisions_swap, collisions_perm, perm_length}
+use Rattle.placements.proofs.Laying.{collisions, collisions_cons}
+use Rattle.placements.proofs.Collisions.{collisions_places, collisions_swap, collisions_perm, perm_length}
 use Rattle.definition.specs.Rules.{T, T_cons}
 
 module _ {A : Type 0} (o : Ops A) where

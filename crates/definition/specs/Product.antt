@@ -18,10 +18,10 @@ use Rattle.algebra.specs.Series.{series, series_semi, monomial, monomial_here, m
 use Rattle.algebra.specs.Newton.{coeff, coeff_zero, coeff_cons, coeff_past, times_root_suc}
 use Rattle.algebra.specs.Integer.{ℤ_eq}
 use Rattle.placements.specs.Placements.{placed, placements, value}
-use Rattle.placements.specs.Number.{placed_number}
-use Rattle.polynomials.specs.Reversed.{get_d_reverse}
+use Rattle.placements.proofs.Number.{placed_number}
+use Rattle.polynomials.proofs.Reversed.{get_d_reverse}
 use Rattle.polynomials.specs.Divisors.{poly, monic}
-use Rattle.polynomials.specs.Bounds.{below_monic}
+use Rattle.polynomials.proofs.Bounds.{below_monic}
 use Rattle.definition.specs.Definition.{nth}
 use Rattle.definition.specs.Rules.{nth_suc, nth_past}
 

@@ -16,9 +16,9 @@ use Rattle.algebra.specs.Series.{monomial, monomial_here, monomial_past}
 use Rattle.algebra.specs.Newton.{power_sum}
 use Rattle.algebra.specs.Integer.{ℤ_eq}
 use Rattle.placements.specs.Placements.{factorials, placed, placements, value}
-use Rattle.placements.specs.Laying.{layings, layings_empty, collide_powers}
-use Rattle.placements.specs.Collisions.{collisions_places}
-use Rattle.placements.specs.Number.{layings_placements}
+use Rattle.placements.proofs.Laying.{layings, layings_empty, collide_powers}
+use Rattle.placements.proofs.Collisions.{collisions_places}
+use Rattle.placements.proofs.Number.{layings_placements}
 use Rattle.definition.specs.Definition.{Resolvent}
 use Rattle.definition.specs.Rules.{by_length, told_by_cong, T, T_nil, T_cons, T_meets}
 use Rattle.definition.specs.Product.{product, values, length_values, length_product}

@@ -21,7 +21,7 @@ use Rattle.algebra.specs.Integer.{ℤ_eq}
 use Rattle.residues.specs.Residues.{residues, Words}
 use Rattle.placements.specs.Placements.{prod, count, except, different, factorials, placed, without, placements, value}
 use Rattle.placements.specs.Places.{with_sum, replaced}
-use Rattle.placements.specs.Collisions.{length_with_sum}
+use Rattle.placements.proofs.Collisions.{length_with_sum}
 use Rattle.definition.specs.Definition.{spread, Rule₂, Resolvent}
 use Rattle.definition.specs.Cost.{met}
 use Rattle.definition.specs.Rules.{by_length, spread_cong}

@@ -10,7 +10,7 @@ use Rattle.checks.specs.Laws.{first_given}
 use Rattle.algebra.specs.Binomial.{falling, falling_zero, falling_suc}
 use Rattle.algebra.specs.Integer.{ℤ_eq}
 use Rattle.placements.specs.Placements.{factorials, placed}
-use Rattle.placements.specs.Number.{placed_whole}
+use Rattle.placements.proofs.Number.{placed_whole}
 use Rattle.residues.specs.Residues.{Words}
 use Rattle.refusals.specs.Refusals.{call_checks, checks, refusal, GoodJob, GoodRoom}
 use Rattle.refusals.specs.Reading.{job_good, not_refused}

@@ -1,8 +1,2 @@
 pub mod Placements
 pub mod Places
-pub mod Multiplicity
-pub mod Laying
-pub mod Collisions
-pub mod AllPlacements
-pub mod Number
-pub mod Merge

@@ -1,3 +1,9 @@
+pub mod Reversed
+pub mod Bounds
+pub mod Euclid
+pub mod Carried
+pub mod Bezout
+pub mod Certificates
 pub mod Fill
 pub mod Parts
 pub mod Division

@@ -18,7 +18,7 @@ use Rattle.residues.specs.Residues.{ring, reduce}
 use Rattle.residues.specs.Field.{inverse}
 use Rattle.placements.specs.Placements.{prod, count, except, different, factorials, placed}
 use Rattle.placements.specs.Places.{with_sum}
-use Rattle.polynomials.specs.Certificates.{Certificate, bezout, common, shown, mark_test, mark_test_right}
+use Rattle.polynomials.proofs.Certificates.{Certificate, bezout, common, shown, mark_test, mark_test_right}
 use Rattle.definition.specs.Definition.{nth, sum₁}
 use Rattle.definition.specs.Rules.{T_up_to, T}
 use Rattle.definition.specs.Answer.{grow, next_sum, sums, next_coefficient, coefficients, divided, answer, resolvent}

@@ -12,9 +12,9 @@ use Rattle.checks.specs.Laws.{same_test}
 use Rattle.residues.specs.Residues.{residues, Words}
 use Rattle.residues.specs.Field.{below_apart}
 use Rattle.placements.specs.Placements.{factorials, placed, placements}
-use Rattle.placements.specs.Number.{placed_number}
+use Rattle.placements.proofs.Number.{placed_number}
 use Rattle.polynomials.specs.Divisors.{Simple}
-use Rattle.polynomials.specs.Bezout.{decide_simple}
+use Rattle.polynomials.proofs.Bezout.{decide_simple}
 use Rattle.definition.specs.Definition.{Resolvent}
 use Rattle.definition.specs.Product.{product, values}
 use Rattle.definition.specs.Words.{factorials_apart, split_words, values_below}

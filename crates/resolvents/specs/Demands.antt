@@ -14,7 +14,7 @@ use Rattle.algebra.specs.Hom.{Hom}
 use Rattle.algebra.specs.Integer.{ℤ_eq}
 use Rattle.residues.specs.Residues.{residues, Words}
 use Rattle.placements.specs.Placements.{placed, placements}
-use Rattle.placements.specs.Number.{placed_number}
+use Rattle.placements.proofs.Number.{placed_number}
 use Rattle.polynomials.specs.Divisors.{Simple}
 use Rattle.definition.specs.Definition.{Resolvent}
 use Rattle.definition.specs.Product.{product, values}

@@ -11,7 +11,7 @@ use Rattle.algebra.specs.Ring as R
 use Rattle.algebra.specs.Hom.{Hom}
 use Rattle.algebra.specs.Series.{series, series_laws, monomial, zero_at}
 use Rattle.polynomials.specs.Divisors.{Below}
-use Rattle.polynomials.specs.Bounds.{below_one, below_neg}
+use Rattle.polynomials.proofs.Bounds.{below_one, below_neg}
 use Rattle.splitting.specs.Steps.{Modulus, scale, times_y, act, act_zero, act_suc, zero_scale, one_scale, add_scale, mul_scale, neg_scale}
 use Rattle.splitting.specs.Steps.{act_linear, act_comm, act_one, act_modulus, scale_below, sum_below, times_y_below, act_below}
 

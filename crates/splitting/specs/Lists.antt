@@ -11,9 +11,9 @@ use Rattle.algebra.specs.Ring.{Ops, Laws}
 use Rattle.algebra.specs.Newton.{coeff, coeff_zero, coeff_past}
 use Rattle.algebra.specs.Hom.{Hom}
 use Rattle.polynomials.specs.Divisors.{Below, poly, monic}
-use Rattle.polynomials.specs.Reversed.{get_d_reverse}
-use Rattle.polynomials.specs.Bounds.{below_poly}
-use Rattle.polynomials.specs.Carried.{hom_poly}
+use Rattle.polynomials.proofs.Reversed.{get_d_reverse}
+use Rattle.polynomials.proofs.Bounds.{below_poly}
+use Rattle.polynomials.proofs.Carried.{hom_poly}
 use Rattle.definition.specs.Product.{listed, length_listed, get_or_listed, product}
 
 module _ {A : Type 0} (o : Ops A) where

@@ -11,7 +11,7 @@ use Rattle.algebra.specs.Ring as R
 use Rattle.algebra.specs.Newton.{coeff, coeff_cons, times_root}
 use Rattle.algebra.specs.Hom.{Hom}
 use Rattle.polynomials.specs.Divisors.{Below, poly, monic}
-use Rattle.polynomials.specs.Bounds.{below_poly, below_monic, monic_top}
+use Rattle.polynomials.proofs.Bounds.{below_poly, below_monic, monic_top}
 use Rattle.definition.specs.Product.{listed, length_listed, product, length_product}
 use Rattle.splitting.specs.Values.{value_at, value_first, value_next, divided, divided_past, hom_times_root}
 use Rattle.splitting.specs.Lists.{leading, monic_leading, listed_leading, product_leading, same_list, hom_leading}

@@ -17,7 +17,7 @@ use mir.ValLaws.{to_z-of_z}
 use Rattle.algebra.specs.Integer.{ℤ_eq}
 use Rattle.limits.specs.Limits.{capacity}
 use Rattle.placements.specs.Placements.{count, factorials}
-use Rattle.placements.specs.Multiplicity.{count_nil, count_same, count_other, count_le, factorials_nil, factorials_cons}
+use Rattle.placements.proofs.Multiplicity.{count_nil, count_same, count_other, count_le, factorials_nil, factorials_cons}
 use Rattle.weights.specs.Lists.{listed}
 use Rattle.weights.specs.Laws.{listed_min, listed_at}
 use Rattle.weights.specs.Numbers.{factorials_small}

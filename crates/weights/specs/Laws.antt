@@ -10,7 +10,7 @@ use Rattle.std.proofs.Math.ListN.{length, drop, length-take, length-drop}
 use Rattle.std.proofs.Math.Seq.{slice, take-append_seam, take-set-lt, get_or-take, take-take}
 use borrow.Author.Tests.{lt-ltb, le-leb, lt-leb, leb-true, ltb-true}
 use Rattle.placements.specs.Places.{with_sum}
-use Rattle.placements.specs.Collisions.{length_with_sum}
+use Rattle.placements.proofs.Collisions.{length_with_sum}
 use Rattle.limits.specs.Limits.{capacity}
 use Rattle.weights.specs.Lists.{of_slice, listed, among, fits, taken_out, put_in, without_at, with_sum_at}
 use Rattle.weights.specs.declared.Weights.{Weights}

@@ -6,8 +6,8 @@ use Rattle.std.proofs.Math.Nat.{pow-zero, pow-succ', pow-le-pow_right}
 use Rattle.algebra.specs.Binomial.{fact, fact_zero, fact_suc, fact_positive, falling, falling_zero, falling_none, falling_suc}
 use Rattle.algebra.specs.Integer.{ℤ_eq}
 use Rattle.placements.specs.Placements.{count, factorials, placed}
-use Rattle.placements.specs.Multiplicity.{factorials_nil, factorials_cons, count_le}
-use Rattle.placements.specs.Number.{placed_whole}
+use Rattle.placements.proofs.Multiplicity.{factorials_nil, factorials_cons, count_le}
+use Rattle.placements.proofs.Number.{placed_whole}
 use Rattle.limits.specs.Limits.{capacity}
 use Rattle.weights.specs.Lists.{listed}
 use Rattle.weights.specs.Laws.{listed_min, listed_at}

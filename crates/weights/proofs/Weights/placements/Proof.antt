@@ -3,7 +3,7 @@
 use borrow.Author.Rules.{rules}
 use Rattle.algebra.specs.Integer.{ℤ_eq}
 use Rattle.placements.specs.Placements.{placed}
-use Rattle.placements.specs.Multiplicity.{factorials_positive}
+use Rattle.placements.proofs.Multiplicity.{factorials_positive}
 use Rattle.weights.specs.Lists.{listed}
 use Rattle.weights.proofs.Weights.placements.Statement.{statement}
 use Rattle.weights.proofs.Weights.placements.Tie as tie

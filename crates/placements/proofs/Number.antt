@@ -18,10 +18,10 @@ use Rattle.algebra.specs.Binomial.{falling, falling_zero, falling_none, falling_
 use Rattle.algebra.specs.Natural.{naturals, naturals_semi, nat_naturals, total_ones}
 use Rattle.algebra.specs.Integer.{ℤ_eq}
 use Rattle.placements.specs.Placements.{count, different, factorials, placed, without, placements, value}
-use Rattle.placements.specs.Multiplicity.{count_same, count_other, without_same, without_other, without_perm, different_nil, different_cons, different_there}
-use Rattle.placements.specs.Multiplicity.{Fold, bring_first, except_cong, factorials_nil, factorials_without, factorials_positive}
-use Rattle.placements.specs.Laying.{removals, layings, removals_nil, removals_cons, removals_cong, layings_none, layings_cons, layings_empty}
-use Rattle.placements.specs.Laying.{Unordered, cons_unordered, layings_perm}
+use Rattle.placements.proofs.Multiplicity.{count_same, count_other, without_same, without_other, without_perm, different_nil, different_cons, different_there}
+use Rattle.placements.proofs.Multiplicity.{Fold, bring_first, except_cong, factorials_nil, factorials_without, factorials_positive}
+use Rattle.placements.proofs.Laying.{removals, layings, removals_nil, removals_cons, removals_cong, layings_none, layings_cons, layings_empty}
+use Rattle.placements.proofs.Laying.{Unordered, cons_unordered, layings_perm}
 
 module _ {A : Type 0} {o : Ops A} (s : Semi o) where
   open o use {zero as 𝟘, one as 𝟙, add as ◌⊕◌, mul as ◌⊗◌}

@@ -12,7 +12,7 @@ use Rattle.algebra.specs.Ring.{Ops, Semi}
 use Rattle.algebra.specs.Ring as R
 use Rattle.algebra.specs.Sum.{sum, sum_zero, sum_first, total, total_add}
 use Rattle.placements.specs.Places.{with_sum}
-use Rattle.placements.specs.Laying.{collisions, collisions_nil, collisions_cons}
+use Rattle.placements.proofs.Laying.{collisions, collisions_nil, collisions_cons}
 
 pub length_with_sum : (M : List ℤ) (j : ℕ) (e : ℤ) → length (with_sum M j e) ≡ length M
 unfolding with_sum

@@ -13,8 +13,8 @@ use Rattle.residues.specs.Prime.{Prime}
 use Rattle.residues.specs.Residues.{ring, reduce}
 use Rattle.residues.specs.Field.{field}
 use Rattle.polynomials.specs.Divisors.{Below, Divides, Coprime, Simple}
-use Rattle.polynomials.specs.Bounds.{below_zero, below_monomial, below_add, below_mul, below_neg, below_monic, below_derivative}
-use Rattle.polynomials.specs.Euclid.{Degree, degree, x_degree, undone, divides_add, divides_mul, divides_self, divides_zero, coprime_by_bezout, not_coprime_by_divisor}
+use Rattle.polynomials.proofs.Bounds.{below_zero, below_monomial, below_add, below_mul, below_neg, below_monic, below_derivative}
+use Rattle.polynomials.proofs.Euclid.{Degree, degree, x_degree, undone, divides_add, divides_mul, divides_self, divides_zero, coprime_by_bezout, not_coprime_by_divisor}
 
 module _ {A : Type 0} (o : Ops A) where
   -- u f + v g = 1

@@ -18,9 +18,9 @@ use Rattle.residues.specs.Prime.{Prime}
 use Rattle.residues.specs.Residues.{Z, residues, ring, reduce, reduce_hom}
 use Rattle.residues.specs.Field.{field}
 use Rattle.polynomials.specs.Divisors.{Below, Divides, Coprime, derivative, poly, monic, Simple}
-use Rattle.polynomials.specs.Bounds.{below_add, below_mul, below_one, below_poly, below_monic, below_derivative}
-use Rattle.polynomials.specs.Euclid.{monic_degree, coprime_by_bezout, not_coprime_by_divisor}
-use Rattle.polynomials.specs.Carried.{hom_poly, hom_monic, hom_derivative, hom_series_one, hom_series_mul}
+use Rattle.polynomials.proofs.Bounds.{below_add, below_mul, below_one, below_poly, below_monic, below_derivative}
+use Rattle.polynomials.proofs.Euclid.{monic_degree, coprime_by_bezout, not_coprime_by_divisor}
+use Rattle.polynomials.proofs.Carried.{hom_poly, hom_monic, hom_derivative, hom_series_one, hom_series_mul}
 
 -- whether two sequences agree at every place below n
 unfoldable pub agree : ℕ → (ℕ → ℕ) → (ℕ → ℕ) → Bool

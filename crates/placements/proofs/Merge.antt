@@ -21,10 +21,10 @@ use Rattle.algebra.specs.Sum.{total, total_cong}
 use Rattle.algebra.specs.Integer.{ℤ_eq}
 use Rattle.placements.specs.Placements.{count, except, different, without}
 use Rattle.placements.specs.Places.{with_sum, replaced}
-use Rattle.placements.specs.Multiplicity.{count_nil, count_same, count_other, without_same, without_other}
-use Rattle.placements.specs.Multiplicity.{except_nil, except_same, except_other, different_nil, different_cons, different_there}
-use Rattle.placements.specs.Laying.{removals, collisions, removals_nil, removals_cons, collisions_nil, collisions_cons}
-use Rattle.placements.specs.Number.{removals_different}
+use Rattle.placements.proofs.Multiplicity.{count_nil, count_same, count_other, without_same, without_other}
+use Rattle.placements.proofs.Multiplicity.{except_nil, except_same, except_other, different_nil, different_cons, different_there}
+use Rattle.placements.proofs.Laying.{removals, collisions, removals_nil, removals_cons, collisions_nil, collisions_cons}
+use Rattle.placements.proofs.Number.{removals_different}
 
 module _ {W : Type 0} (eq : Discrete W) where
   module _ (d x y : W) (M : List W) where

@@ -23,8 +23,8 @@ use Rattle.std.proofs.Math.Option.{Option, none, some, none-ne-some, some-inject
 use Prim.Native.Nat.{ℕ, zero, suc}
 use Rattle.std.proofs.Math.Nat.{suc_inj, suc-ne-zero}
 use Rattle.placements.specs.Placements.{different, without, used, Placement, placements}
-use Rattle.placements.specs.Multiplicity.{count_same, count_perm, without_same, without_perm, without_cong}
-use Rattle.placements.specs.Multiplicity.{different_in, different_there, different_once}
+use Rattle.placements.proofs.Multiplicity.{count_same, count_perm, without_same, without_perm, without_cong}
+use Rattle.placements.proofs.Multiplicity.{different_in, different_there, different_once}
 
 module _ {X Y : Type 0} where
   flat_map_inv : (h : X → List Y) (xs : List X) {y : Y} → Memᴰ y (flat_map h xs) → (x : X) × Memᴰ x xs × Memᴰ y (h x)
@@ -32,7 +32,7 @@ module _ {X Y : Type 0} where
   flat_map_inv h [] m = absurd (Memᴰ.not-nil m)
   flat_map_inv h (x ∷ xs) m = ⊎_elim (λ k. (x, mhead refl, k)) (λ k. let r = flat_map_inv h xs k in (r.0, mtail r.1, r.2)) (Memᴰ.append_cases (h x) m)
 
-  flat_map_in : (h : X → List Y) {xs : List X} {x : X} {y : Y} → Memᴰ x xs → Memᴰ y (h x) → Memᴰ y (flat_map h xs)
+  flat_map_in : (h : X → List Y) {x : X} {xs : List X} {y : Y} → Memᴰ x xs → Memᴰ y (h x) → Memᴰ y (flat_map h xs)
   unfolding flat_map
   flat_map_in h {y = y} (mhead {xs = xs} e) k = Memᴰ.append_left (flat_map h xs) (rw e at k)
   flat_map_in h (mtail {x = x} m) k = Memᴰ.append_right (h x) (flat_map_in h m k)
