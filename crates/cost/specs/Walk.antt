@@ -12,7 +12,7 @@ use Rattle.weights.specs.declared.Weights.{Weights}
 use Rattle.weights.specs.Lists.{listed}
 use Rattle.weights.specs.Rests.{Rest}
 use Rattle.definition.specs.Cost.{lists, most_lists}
-use Rattle.definition.specs.Merge.{lists_so_far, so_far_none, so_far_more, so_far_all, so_far_most, most_mono}
+use Rattle.definition.proofs.Merge.{lists_so_far, so_far_none, so_far_more, so_far_all, so_far_most, most_mono}
 
 -- the different weights among the first j places
 abbrev pub passed : List ℤ → ℕ → List ℤ

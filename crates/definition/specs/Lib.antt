@@ -1,13 +1,3 @@
 pub mod Definition
 pub mod Product
 pub mod Cost
-pub mod Rules
-pub mod OneAnswer
-pub mod Carry
-pub mod Roots
-pub mod Split
-pub mod Words
-pub mod Answer
-pub mod Turns
-pub mod Order
-pub mod Merge

@@ -12,11 +12,11 @@ use Rattle.algebra.specs.Integer.{ℤ_eq}
 use Rattle.placements.specs.Placements.{factorials, placed}
 use Rattle.definition.specs.Definition.{Rule₁, Resolvent}
 use Rattle.definition.specs.Product.{product, values}
-use Rattle.definition.specs.Rules.{T, T_meets, same_T}
-use Rattle.definition.specs.OneAnswer.{same_sums, one_answer}
-use Rattle.definition.specs.Carry.{hom_Rule₁, hom_Rule₂, carry}
-use Rattle.definition.specs.Roots.{sums_of_roots}
-use Rattle.definition.specs.Split.{T_placements, split}
+use Rattle.definition.proofs.Rules.{T, T_meets, same_T}
+use Rattle.definition.proofs.OneAnswer.{same_sums, one_answer}
+use Rattle.definition.proofs.Carry.{hom_Rule₁, hom_Rule₂, carry}
+use Rattle.definition.proofs.Roots.{sums_of_roots}
+use Rattle.definition.proofs.Split.{T_placements, split}
 use Rattle.splitting.specs.Splitting.{Splitting}
 
 -- f = x^n + c1 x^(n-1) + .. + cn is the product of x - a over the listed a of a ring q, where φ takes the coefficients

@@ -16,7 +16,8 @@ use Rattle.residues.specs.Field.{inverse, nat_inverse}
 use Rattle.placements.specs.Placements.{factorials, placed}
 use Rattle.definition.specs.Definition.{Resolvent}
 use Rattle.definition.specs.Product.{product, values}
-use Rattle.splitting.specs.Splitting.{Splitting, splitting}
+use Rattle.splitting.specs.Splitting.{Splitting}
+use Rattle.splitting.proofs.Splittings.{splitting}
 use Rattle.lists_end.specs.Anywhere.{resolvent_is}
 
 -- a ring q over the words modulo p

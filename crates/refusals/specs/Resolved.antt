@@ -17,8 +17,8 @@ use Rattle.polynomials.specs.Divisors.{Simple}
 use Rattle.polynomials.proofs.Bezout.{decide_simple}
 use Rattle.definition.specs.Definition.{Resolvent}
 use Rattle.definition.specs.Product.{product, values}
-use Rattle.definition.specs.Words.{factorials_apart, split_words, values_below}
-use Rattle.definition.specs.Answer.{resolvent, resolvent_right, resolvent_below, resolvent_only}
+use Rattle.definition.proofs.Words.{factorials_apart, split_words, values_below}
+use Rattle.definition.proofs.Answer.{resolvent, resolvent_right, resolvent_below, resolvent_only}
 use Rattle.lists_end.specs.Words.{words_product, RootRing, words_told}
 use Rattle.refusals.specs.Refusals.{GoodJob, GoodDivisors}
 

@@ -5,7 +5,7 @@ use Rattle.std.proofs.Common.{sym, ap₂, ◌∙◌, arith, length-take, take-ap
 use Rattle.std.proofs.Math.Nat.{min-le_left}
 use Rattle.std.proofs.lemmas.List.{length-replicate}
 use Rattle.limits.specs.Limits.{room}
-use Rattle.definition.specs.Answer.{resolvent}
+use Rattle.definition.proofs.Answer.{resolvent}
 use Rattle.refusals.specs.Refusals.{Call, weights, N, GoodCall}
 use Rattle.refusals.specs.Resolved.{Resolved, resolved_exists, resolved_only}
 

@@ -19,7 +19,7 @@ use Rattle.polynomials.specs.Divisors.{Simple}
 use Rattle.definition.specs.Definition.{Resolvent}
 use Rattle.definition.specs.Product.{product, values}
 use Rattle.definition.specs.Cost.{NumberOfLists, lists, most_lists}
-use Rattle.definition.specs.Merge.{lists_number, number_only, lists_most, most_mono}
+use Rattle.definition.proofs.Merge.{lists_number, number_only, lists_most, most_mono}
 use Rattle.lists_end.specs.Words.{RootRing, root_ring}
 use Rattle.refusals.specs.Refusals.{Call, weights, N, call_checks, checks, refusal, GoodJob, Accepted}
 use Rattle.refusals.specs.Reading.{refusal_listed, row_exactly, not_refused}

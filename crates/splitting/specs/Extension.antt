@@ -1,10 +1,8 @@
 -- Rings over a ring: another ring, and a map into it that keeps the operations, takes no two numbers to one, and keeps what can
--- be cancelled. The ring itself is one, A[y]/(f) is one, and a ring over a ring over A is one.
+-- be cancelled. The ring itself is one, and a ring over a ring over A is one; A[y]/(f) is one by `AdjoinLaws`.
 use Rattle.std.specs.Prelude.{◌≡◌, refl}
 use Rattle.algebra.specs.Ring.{Ops, Laws, Cancels}
 use Rattle.algebra.specs.Hom.{Hom, hom_then}
-use Rattle.splitting.specs.Steps.{Modulus}
-use Rattle.splitting.specs.Adjoin.{K, ops, laws, const, const_hom, const_injective, const_cancels}
 
 pub record Extension {A : Type 0} (o : Ops A) : Type 1 where
   pub carrier : Type 0
@@ -24,17 +22,6 @@ itself {A} {o} l = record {
   hom = record { at_zero = refl; at_one = refl; at_add = λ a b. refl; at_mul = λ a b. refl; at_neg = λ a. refl };
   injective = λ a b e. e;
   cancels = λ a e. e;
-}
-
-abbrev pub adjoined : {A : Type 0} {o : Ops A} (l : Laws o) (g : Modulus o) → Extension o
-adjoined l g = record {
-  carrier = K l g;
-  ops = ops l g;
-  laws = laws l g;
-  embed = const l g;
-  hom = const_hom l g;
-  injective = const_injective l g;
-  cancels = const_cancels l g;
 }
 
 abbrev pub further : {A : Type 0} {o : Ops A} (e : Extension o) → Extension e.ops → Extension o

@@ -1,6 +1,5 @@
 pub mod Values
 pub mod Lists
 pub mod Steps
-pub mod Adjoin
 pub mod Extension
 pub mod Splitting

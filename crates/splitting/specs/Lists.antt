@@ -14,7 +14,8 @@ use Rattle.polynomials.specs.Divisors.{Below, poly, monic}
 use Rattle.polynomials.proofs.Reversed.{get_d_reverse}
 use Rattle.polynomials.proofs.Bounds.{below_poly}
 use Rattle.polynomials.proofs.Carried.{hom_poly}
-use Rattle.definition.specs.Product.{listed, length_listed, get_or_listed, product}
+use Rattle.definition.specs.Product.{listed, product}
+use Rattle.definition.proofs.Products.{length_listed, get_or_listed}
 
 module _ {A : Type 0} (o : Ops A) where
   -- 1, c1, .., cn, and zeros

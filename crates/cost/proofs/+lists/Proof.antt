@@ -17,7 +17,7 @@ use Rattle.weights.specs.Lists.{listed}
 use Rattle.weights.specs.Laws.{listed_none}
 use Rattle.weights.specs.Rests.{Rest, Met, rest_facts}
 use Rattle.definition.specs.Cost.{lists}
-use Rattle.definition.specs.Merge.{lists_number}
+use Rattle.definition.proofs.Merge.{lists_number}
 use Rattle.cost.specs.Walk.{New, new_here, old_here, walked, walked_none, walked_new, walked_old, walked_list, walked_fits}
 use borrow.Fn.Kinds.{In, Out}
 use borrow.Fn.PlainCycle.{Measures, is, falls, and}

@@ -24,9 +24,9 @@ use Rattle.placements.specs.Places.{with_sum, replaced}
 use Rattle.placements.proofs.Collisions.{length_with_sum}
 use Rattle.definition.specs.Definition.{spread, Rule₂, Resolvent}
 use Rattle.definition.specs.Cost.{met}
-use Rattle.definition.specs.Rules.{by_length, spread_cong}
+use Rattle.definition.proofs.Rules.{by_length, spread_cong}
 use Rattle.definition.specs.Product.{listed, product, values}
-use Rattle.definition.specs.Words.{split_words}
+use Rattle.definition.proofs.Words.{split_words}
 
 module _ {A : Type 0} (o : Ops A) (b : List A) where
   -- "Laying equal weights as if they differed: B would have degree 2": on two roots 1,1 has one placement

@@ -9,7 +9,7 @@ use Rattle.algebra.specs.Natural.{strong}
 use Rattle.algebra.specs.Integer.{ℤ_eq}
 use Rattle.placements.specs.Placements.{factorials, placed}
 use Rattle.definition.specs.Definition.{nth, Rule₁, Resolvent}
-use Rattle.definition.specs.Rules.{nth_suc, newton_cong, newton_past_cong, newton_back_cong, same_T}
+use Rattle.definition.proofs.Rules.{nth_suc, newton_cong, newton_past_cong, newton_back_cong, same_T}
 
 module _ {A : Type 0} (o : Ops A) where
   -- rule 1 determines the power sums

@@ -20,9 +20,10 @@ use Rattle.placements.proofs.Laying.{layings, layings_empty, collide_powers}
 use Rattle.placements.proofs.Collisions.{collisions_places}
 use Rattle.placements.proofs.Number.{layings_placements}
 use Rattle.definition.specs.Definition.{Resolvent}
-use Rattle.definition.specs.Rules.{by_length, told_by_cong, T, T_nil, T_cons, T_meets}
-use Rattle.definition.specs.Product.{product, values, length_values, length_product}
-use Rattle.definition.specs.Roots.{newton_for_roots, sums_of_roots}
+use Rattle.definition.proofs.Rules.{by_length, told_by_cong, T, T_nil, T_cons, T_meets}
+use Rattle.definition.specs.Product.{product, values}
+use Rattle.definition.proofs.Products.{length_values, length_product}
+use Rattle.definition.proofs.Roots.{newton_for_roots, sums_of_roots}
 
 module _ {A : Type 0} {o : Ops A} (l : Laws o) where
   open o use {one as 𝟙, add as ◌⊕◌, mul as ◌⊗◌, neg as ⊖◌}

@@ -8,8 +8,9 @@ use Rattle.algebra.specs.Power.{nat}
 use Rattle.algebra.specs.Sum.{sum, sum_cong, sum_append, sum_zeros}
 use Rattle.algebra.specs.Newton.{newton_next, power_sum, power_sum_zero}
 use Rattle.definition.specs.Definition.{nth, sum₁, newton, Rule₁}
-use Rattle.definition.specs.Rules.{nth_past, sum₁_is}
-use Rattle.definition.specs.Product.{product, length_product, nth_product}
+use Rattle.definition.proofs.Rules.{nth_past, sum₁_is}
+use Rattle.definition.specs.Product.{product}
+use Rattle.definition.proofs.Products.{length_product, nth_product}
 
 module _ {A : Type 0} {o : Ops A} (l : Laws o) where
   open o use {zero as 𝟘, add as ◌⊕◌, mul as ◌⊗◌, neg as ⊖◌}

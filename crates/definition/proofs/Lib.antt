@@ -1,0 +1,11 @@
+pub mod Products
+pub mod Rules
+pub mod OneAnswer
+pub mod Carry
+pub mod Roots
+pub mod Split
+pub mod Words
+pub mod Answer
+pub mod Turns
+pub mod Order
+pub mod Merge

@@ -1,0 +1,4 @@
+pub mod StepLaws
+pub mod Adjoin
+pub mod AdjoinLaws
+pub mod Splittings
