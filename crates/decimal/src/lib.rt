@@ -1,4 +1,6 @@
 // Numbers in decimal, one by one and in lists: each has one spelling, which is read and written.
+#![tactic(auto)]
+
 ghost use Rattle.std.specs.Prelude.{◌≡◌, ◌+◌, ◌*◌, ◌≤◌, [], ◌∷◌, leb, pos, neg_ℤ, nat_abs, length, get_or};
 ghost use Rattle.limits.specs.Limits.{most_placements, largest_written};
 ghost use Rattle.decimal.specs.Spelling.{decimal, signed, line, Small, Each};

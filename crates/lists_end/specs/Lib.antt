@@ -1,5 +1,4 @@
 pub mod Anywhere
 pub mod Zeros
 pub mod GoesOn
-pub mod Modulo
 pub mod Words

@@ -1,4 +1,6 @@
 // What bench/ measures, for C to call.
+#![tactic(auto)]
+
 ghost use Rattle.std.specs.Prelude.{◌≡◌, ◌≤◌, length};
 ghost use Rattle.halves.specs.Halves.{Halved, Widened, Halves, halves_sum};
 ghost use Rattle.residues.specs.Promises.{InRange, inner_sum};
