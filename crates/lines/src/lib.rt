@@ -1,4 +1,6 @@
 // Lines of a record: a key, and a number or a list of numbers behind it.
+#![tactic(auto)]
+
 ghost use Rattle.std.specs.Prelude.{◌≡◌, ◌+◌, ◌≤◌, length};
 ghost use Rattle.limits.specs.Limits.{most_placements};
 ghost use Rattle.decimal.specs.Spelling.{decimal, signed, Small, Each};

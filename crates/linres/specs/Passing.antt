@@ -5,7 +5,7 @@ use Rattle.linres.specs.declared.Passed.TheVariants.{Bytes, Failed}
 
 abbrev pub Within : ℕ → Passed → Type 0
 Within lent (Bytes n) = n ≤ lent
-Within lent Failed = Unit {0}
+Within lent (Failed error) = Unit {0}
 
 pub within_lent : {lent n : ℕ} {r : Passed} → Within lent r → r ≡ Bytes n → n ≤ lent
 within_lent w e = rw e at w

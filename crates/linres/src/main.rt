@@ -1,64 +1,72 @@
 // Reads one job from standard input and writes its answer to standard output (document 01). Where a read or a write fails, one line goes
-// to standard error, and no part of a text is judged. The exit status is 0 all the same, Rattle has no other: a caller of this program
-// looks at standard error, or starts it by the command ./linres.
+// to standard error, and no part of a text is judged. The exit status is 0 all the same: a caller of this program looks at standard
+// error, or starts it by the command ./linres.
+#![tactic(auto)]
+
 ghost use Rattle.std.specs.Prelude.{length};
 ghost use Rattle.linres_text.specs.Texts.{TextOf};
 ghost use Rattle.linres.specs.Passing.{Within};
 
+use std::io;
+use std::io::{Error, ErrorKind, Read, Stdin, Stdout, Write};
+
 // How often a call is made again that a signal interrupted. A loop has to end; no run comes to this.
 const PATIENCE: u64 = u64::MAX;
 
-// How many bytes passed, or that a call failed; errno says why.
+// How many bytes passed, or why a call failed.
 #[derive(Drop)]
 enum Passed {
     Bytes(usize),
-    Failed,
+    Failed(Error),
 }
 
 // One read from standard input, made again where a signal interrupts it. It passes no byte at the end.
-fn read_part(part: &mut [u8]) -> Passed
+fn read_part(input: &mut Stdin, part: &mut [u8]) -> Passed
     ensures { Within (length part.new) result }
 {
     let mut left = PATIENCE;
     while left > 0 {
-        let got = libc::read(libc::STDIN_FILENO, part);
-        if got >= 0 {
-            return Passed::Bytes(io::count(got, part));
-        }
-        if os::errno() != libc::EINTR {
-            return Passed::Failed;
+        match input.read(part) {
+            Ok(got) => return Passed::Bytes(got),
+            Err(error) => {
+                if error.kind() != ErrorKind::Interrupted {
+                    return Passed::Failed(error);
+                }
+            }
         }
         left -= 1;
     }
-    Passed::Failed
+    Passed::Failed(Error::from(ErrorKind::Interrupted))
 }
 
 // One write to standard output, made again where a signal interrupts it.
-fn write_part(part: &[u8]) -> Passed
+fn write_part(output: &mut Stdout, part: &[u8]) -> Passed
     ensures { Within (length part.now) result }
 {
     let mut left = PATIENCE;
     while left > 0 {
-        let put = libc::write(libc::STDOUT_FILENO, part);
-        if put >= 0 {
-            return Passed::Bytes(io::count(put, part));
-        }
-        if os::errno() != libc::EINTR {
-            return Passed::Failed;
+        match output.write(part) {
+            Ok(put) => return Passed::Bytes(put),
+            Err(error) => {
+                if error.kind() != ErrorKind::Interrupted {
+                    return Passed::Failed(error);
+                }
+            }
         }
         left -= 1;
     }
-    Passed::Failed
+    Passed::Failed(Error::from(ErrorKind::Interrupted))
 }
 
 // Reads until standard input ends or text is full.
-fn read_whole(text: &mut [u8]) -> Passed
+fn read_whole(input: &mut Stdin, text: &mut [u8]) -> Passed
     ensures { Within (length text.new) result }
 {
     let mut n = 0;
     while n < text.len() {
-        let Passed::Bytes(got) = read_part(&mut text[n..]) else {
-            return Passed::Failed;
+        let got = match read_part(input, &mut text[n..]) {
+            Passed::Bytes(got) => got,
+            Passed::Failed(error) => return Passed::Failed(error),
         };
         if got == 0 {
             return Passed::Bytes(n);
@@ -68,32 +76,43 @@ fn read_whole(text: &mut [u8]) -> Passed
     Passed::Bytes(n)
 }
 
-// Writes the whole answer, which the caller has shown to be the one to the text; or says that it could not.
-fn write_whole(text: &[u8], answer: &[u8]) -> bool
+// Writes the whole answer, which the caller has shown to be the one to the text; or says why it could not.
+fn write_whole(output: &mut Stdout, text: &[u8], answer: &[u8]) -> io::Result<()>
     requires { TextOf text.now answer.now }
 {
     let mut done = 0;
     while done < answer.len() {
-        let Passed::Bytes(put) = write_part(&answer[done..]) else {
-            return false;
+        let put = match write_part(output, &answer[done..]) {
+            Passed::Bytes(put) => put,
+            Passed::Failed(error) => return Err(error),
         };
         if put == 0 {
-            return false;
+            return Err(Error::from(ErrorKind::WriteZero));
         }
         done += put;
     }
-    true
+    Ok(())
 }
 
-fn main() {
+// One line on standard error: what could not be done, and the system's words for why.
+fn say(rt: &HostRuntime, what: &str, error: Error) -> io::Result<()> {
+    let told = format!(in rt.alloc(); "{error}")?;
+    match told.as_str().split_once(" (os error ") {
+        Some((words, _)) => eprintln!(rt; "linres: {what}: {words}"),
+        None => eprintln!(rt; "linres: {what}: {told}"),
+    }
+}
+
+fn main(rt: HostRuntime) -> io::Result<()> {
     let mut text = [0u8; limits::LONGEST_TEXT + 1];
-    let Passed::Bytes(n) = read_whole(&mut text) else {
-        os::fail(b"linres: standard input could not be read");
-        return;
+    let n = match read_whole(&mut rt.stdin(), &mut text) {
+        Passed::Bytes(n) => n,
+        Passed::Failed(error) => return say(&rt, "standard input could not be read", error),
     };
     let mut out = [0u8; limits::LONGEST_ANSWER];
     let len = linres_text::answer_any(&text[..n], &mut out);
-    if !write_whole(&text[..n], &out[..len]) {
-        os::fail(b"linres: the answer could not be written");
+    if let Err(error) = write_whole(&mut rt.stdout(), &text[..n], &out[..len]) {
+        return say(&rt, "the answer could not be written", error);
     }
+    Ok(())
 }

@@ -1,10 +1,9 @@
 -- n (n - 1) .. (n - r + 1) from its smallest factor: after the factors up to m, those of m that are above n - r. One factor more is
 -- `falling`'s own rule, and each product on the way fits 64 bits.
-use mathlib.Core.Path.{◌≡◌}
+use Rattle.std.proofs.Math.Path.{◌≡◌}
 use Prim.Native.Nat.{ℕ, suc, ◌+◌, ◌*◌, ◌-◌, ◌≤◌, ◌<◌, ◌^◌}
-use native.Mathlib.Nat.{mul_comm}
-use native.Mathlib.Numerals.{add-one}
-use native.Mathlib.Omega.{arith}
+use Rattle.std.proofs.Math.Nat.{mul_comm}
+use Rattle.std.proofs.Common.{add-one, arith}
 use Rattle.algebra.specs.Binomial.{falling, falling_zero, falling_suc}
 use Rattle.limits.specs.Limits.{capacity}
 use Rattle.weights.specs.Numbers.{falling_small}

@@ -1,14 +1,13 @@
 -- The places while the later weights move up: those from `at` on up to i hold what stood one place further, the rest is as it was.
 -- A turn stores at the seam between the two parts, and so does the 0 of the place that is freed.
-use mathlib.Core.Path.{◌≡◌, sym, ap, ◌∙◌}
-use mathlib.Core.Bool.{true}
+use Rattle.std.proofs.Math.Path.{◌≡◌, ◌∙◌}
+use Rattle.std.proofs.Common.{sym, ap, add-one, arith, length-append, length-take, length-drop, take-append-drop, take-suc, drop-cons, length-take-le}
+use Rattle.std.specs.Prelude.{true, ℤ, pos, length, take, drop, set}
 use mathlib.Core.List.{List, [], ◌∷◌, ◌++◌, append-nil, append_assoc}
 use Prim.Native.Nat.{ℕ, ◌+◌, ◌-◌, ◌≤◌, ◌<◌}
-use native.Mathlib.Numerals.{add-one}
-use native.Mathlib.Omega.{arith}
-use lib.IntN.{ℤ, pos}
-use lib.ListN.{length, take, drop, set, get_or, length-append, length-take, length-drop, take-append-drop}
-use lib.Seq.{slice, slice_empty, take-suc, drop-cons, set_at, drop-append-le, length-take-le, append_snoc, get_or-append-add, get_or-drop}
+use Rattle.std.proofs.Math.ListN.{get_or}
+use Rattle.std.proofs.Math.Seq.{slice, slice_empty, set_at, append_snoc, get_or-append-add, get_or-drop}
+use Rattle.std.proofs.lemmas.List.{drop-append-le}
 use Rattle.limits.specs.Limits.{capacity}
 use Rattle.weights.specs.Lists.{among, taken_out, without_at}
 use Rattle.weights.specs.Laws.{among_there, there_among, without_taken}

@@ -1,13 +1,12 @@
 -- The sum of two words of 32 bits, as the code has it: both are widened to 64 bits, where their sum fits, and the two tests
 -- are those of a word's range.
-use mathlib.Core.Path.{◌≡◌, sym, ◌∙◌}
-use mathlib.Core.Bool.{true, false}
+use Rattle.std.proofs.Math.Path.{◌≡◌, ◌∙◌}
+use Rattle.std.proofs.Common.{sym, arith, ltb-true, ltb-false, lt-ltb, le-ltb}
+use Rattle.std.specs.Prelude.{true, false, ℤ, pos, negsuc, set}
 use Prim.Native.Nat.{ℕ, ◌+◌, ◌≤◌, ◌<◌, ◌^◌}
-use native.Mathlib.Omega.{arith}
-use lib.IntN.{ℤ, pos, negsuc, ◌+ℤ◌}
-use lib.Signed.{mag, lt_z, nat_abs-le}
-use lib.ListN.{get_or, set}
-use borrow.Author.Tests.{ltb-true, ltb-false, lt-ltb, le-ltb}
+use Rattle.std.proofs.Math.IntN.{◌+ℤ◌}
+use Rattle.std.specs.Int.Signed.{mag, lt_z, nat_abs-le}
+use Rattle.std.proofs.Math.ListN.{get_or}
 use mir.Syntax.{w32, w64}
 use mir.Val.{SFits, to_z, of_z}
 use mir.ValLaws.{to_z-of_z}
@@ -80,3 +79,18 @@ module _ {s : Weights} {at : ℕ} {e : ℤ} (a : Adding s at e) where
     pub sum_put : record { places = set s.places at (to_z w32 (of_z w32 (coded weight e))); len = s.len } ≡ with_sum_at s at e
     unfolding with_sum put_in
     sum_put = rw (is_sum, to_z-of_z w32 (weight +ℤ e) in_word) (sym (with_sum_put s at e a.there (lt-ltb _ _ in_word.sfits)))
+
+-- the same without a record: the list comes back where the sum, as the code has it, is past an end of a word's range
+module _ (s : Weights) (at : ℕ) (e : ℤ) (m : ℕ) (there : among s at ≡ true) (weight : mag (get_or s.places at (pos 0)) < 2 ^ 31) (addend : mag e < 2 ^ 31)
+    (end : 2 ^ 31 ≤ m + 1) where
+  abbrev words : Adding s at e
+  words = record { there = there; weight = record { sfits = weight }; addend = record { sfits = addend } }
+
+  abbrev coded_sum : ℤ
+  coded_sum = coded (get_or s.places at (pos 0)) e
+
+  pub kept_low : lt_z coded_sum (negsuc m) ≡ true → (lt_z coded_sum (negsuc m) ≡ true) × (s ≡ with_sum_at s at e)
+  kept_low t = (t, sum_low words m end t)
+
+  pub kept_high : lt_z (pos m) coded_sum ≡ true → (lt_z (pos m) coded_sum ≡ true) × (s ≡ with_sum_at s at e)
+  kept_high t = (t, sum_high words m end t)

@@ -1,5 +1,7 @@
 // A weight list: a few signed weights with their count r (document 01, "A job in numbers").
 // A list goes in by value and a new one comes back; the old one stays good. Every list and place is answered.
+#![tactic(auto)]
+
 ghost use Rattle.std.specs.Prelude.{◌+◌, ◌≤◌, ◌<◌, ◌≡◌, pos, length, drop, get_or};
 ghost use Rattle.algebra.specs.Binomial.{falling};
 ghost use Rattle.algebra.specs.Integer.{ℤ_eq};
@@ -8,7 +10,7 @@ ghost use Rattle.limits.specs.Limits.{capacity};
 ghost use Rattle.weights.specs.Lists.{of_slice, listed, among, without_at, with_sum_at};
 
 // The first len places hold the weights; places after them count for nothing.
-#[derive(Drop)]
+#[derive(Clone, Copy)]
 pub struct Weights {
     pub places: [i32; limits::CAPACITY],
     pub len: usize,
@@ -65,6 +67,7 @@ impl Weights {
     }
 
     // The list with e added to the weight at a place.
+    #[tactic(auto, using(crate::proofs::Sum::kept_low, crate::proofs::Sum::kept_high))]
     pub fn with_sum(mut self, at: usize, e: i32) -> Weights
         ensures { result ≡ with_sum_at self at e }
     {
