@@ -1,4 +1,6 @@
 // What a job costs: the number of weight lists that are worked for a list, told without working them.
+#![tactic(auto)]
+
 ghost use Rattle.std.specs.Prelude.{◌≡◌};
 ghost use Rattle.definition.specs.Cost.{lists};
 ghost use Rattle.weights.specs.Lists.{listed};
