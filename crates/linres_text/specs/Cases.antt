@@ -3,9 +3,9 @@ use Rattle.std.specs.Prelude.{◌≡◌, refl, ℕ}
 use Rattle.std.proofs.Common.{ap₂, ◌∙◌, le_refl}
 use mathlib.Core.List.Memᴰ.{tail as later}
 use mathlib.Core.List.{List, [], Memᴰ}
-use Rattle.refusals.specs.Resolved.{resolved_only}
+use Rattle.refusals.proofs.ResolvedOnly.{resolved_only}
 use Rattle.refusals.specs.Cases.{Case, cases, Holds}
-use Rattle.refusals.specs.CasesHold.{table}
+use Rattle.refusals.proofs.CasesHold.{table}
 use Rattle.lines.specs.Lines.{bytes}
 use Rattle.records.specs.Records.{Job, job, job_text, answer, answer_text}
 use Rattle.records.specs.Theorems.{example_job, example_answer}

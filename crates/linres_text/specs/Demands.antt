@@ -14,8 +14,8 @@ use Rattle.placements.specs.Placements.{placements}
 use Rattle.polynomials.specs.Divisors.{Simple}
 use Rattle.definition.specs.Definition.{Resolvent}
 use Rattle.definition.specs.Product.{product, values}
-use Rattle.refusals.specs.Reading.{job_numbered}
-use Rattle.refusals.specs.Resolved.{resolved_exists, words_only, degree_is, resolved_product, resolved_anywhere}
+use Rattle.refusals.proofs.Reading.{job_numbered}
+use Rattle.refusals.proofs.ResolvedOnly.{resolved_exists, words_only, degree_is, resolved_product, resolved_anywhere}
 use Rattle.decimal.specs.Spelling.{Word, decimal}
 use Rattle.decimal.specs.Scan.{got, digit_of, number}
 use Rattle.decimal.specs.NumberLaws.{numbers}

@@ -13,8 +13,8 @@ use Rattle.placements.specs.Placements.{factorials, placed}
 use Rattle.placements.proofs.Number.{placed_whole}
 use Rattle.residues.specs.Residues.{Words}
 use Rattle.refusals.specs.Refusals.{call_checks, checks, refusal, GoodJob, GoodRoom}
-use Rattle.refusals.specs.Reading.{job_good, not_refused}
-use Rattle.refusals.specs.Resolved.{divisors_apart}
+use Rattle.refusals.proofs.Reading.{job_good, not_refused}
+use Rattle.refusals.proofs.ResolvedOnly.{divisors_apart}
 use Rattle.resolvents.specs.Slices.{asked}
 use Rattle.decimal.specs.Spelling.{Each, Small, Word}
 use Rattle.records.specs.Records.{Job, JobHolds, AnswerHolds, answer}

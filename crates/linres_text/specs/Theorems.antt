@@ -5,7 +5,7 @@ use Rattle.std.proofs.Common.{sym, ap, ap₂, ◌∙◌, le_refl, arith}
 use Rattle.std.proofs.Math.Decide.{ℕ_discrete, dec_lt, dec_le}
 use Rattle.std.proofs.Math.Seq.{take-append_seam}
 use Rattle.limits.specs.Limits.{longest_text, longest_answer}
-use Rattle.refusals.specs.Resolved.{resolved_only}
+use Rattle.refusals.proofs.ResolvedOnly.{resolved_only}
 use Rattle.records.specs.declared.Written.{Written}
 use Rattle.records.specs.Put.{put_decides}
 use Rattle.records.specs.Records.{Job, JobHolds, job_text, answer, answer_text}

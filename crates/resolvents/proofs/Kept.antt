@@ -23,7 +23,7 @@ use Rattle.rows.specs.Factorials.{InverseTable}
 use Rattle.engine.specs.Answered.{Counted, Answered}
 use Rattle.refusals.specs.declared.Judgement.{Judgement}
 use Rattle.refusals.specs.Refusals.{Call, weights, N, call_checks, divisor_checks, checks, refusal, GoodCall, Accepted}
-use Rattle.refusals.specs.Reading.{call_good, call_numbered, not_refused}
+use Rattle.refusals.proofs.Reading.{call_good, call_numbered, not_refused}
 use Rattle.refusals.specs.Judged.{given, Judged}
 use Rattle.resolvents.specs.declared.Outcome.{Outcome}
 use Rattle.resolvents.specs.Promise.{Promise, left}

@@ -6,8 +6,9 @@ use Rattle.std.proofs.Math.Decide.{ℕ_discrete}
 use Rattle.checks.specs.Laws.{answers_decide}
 use Rattle.definition.specs.Cost.{lists}
 use Rattle.refusals.specs.Refusals.{Call, weights, N, refusal}
-use Rattle.refusals.specs.Reading.{not_refused}
-use Rattle.refusals.specs.Success.{Same, untouched_only, success_only, success_exists, filled, cleared}
+use Rattle.refusals.proofs.Reading.{not_refused}
+use Rattle.refusals.specs.Success.{Same}
+use Rattle.refusals.proofs.SuccessOnly.{untouched_only, success_only, success_exists, filled, cleared}
 use Rattle.resolvents.specs.Promise.{Exit, Refused, Done, Promise}
 
 abbrev exit : ℕ → ℕ → Bool → ℕ → List ℕ → List ℕ → Exit

@@ -22,11 +22,12 @@ use Rattle.definition.specs.Cost.{NumberOfLists, lists, most_lists}
 use Rattle.definition.proofs.Merge.{lists_number, number_only, lists_most, most_mono}
 use Rattle.lists_end.specs.Words.{RootRing, root_ring}
 use Rattle.refusals.specs.Refusals.{Call, weights, N, call_checks, checks, refusal, GoodJob, Accepted}
-use Rattle.refusals.specs.Reading.{refusal_listed, row_exactly, not_refused}
-use Rattle.refusals.specs.Resolved.{Resolved, words_only, resolved_only, resolved_product, resolved_anywhere, resolved_told}
-use Rattle.refusals.specs.Success.{weights_counted}
+use Rattle.refusals.proofs.Reading.{refusal_listed, row_exactly, not_refused}
+use Rattle.refusals.specs.Resolved.{Resolved}
+use Rattle.refusals.proofs.ResolvedOnly.{words_only, resolved_only, resolved_product, resolved_anywhere, resolved_told}
+use Rattle.refusals.proofs.SuccessOnly.{weights_counted}
 use Rattle.refusals.specs.Cases.{Case, cases, Holds}
-use Rattle.refusals.specs.CasesHold.{table, call, case_accepted}
+use Rattle.refusals.proofs.CasesHold.{table, call, case_accepted}
 use Rattle.resolvents.specs.Promise.{Exit, Refused, Done, Promise}
 
 module _ (c : Call) (e : Exit) (q : Promise c e) where

@@ -11,7 +11,7 @@ use Rattle.checks.specs.Laws.{first_holds, first_same, answers_moved}
 use Rattle.weights.specs.declared.Weights.{Weights}
 use Rattle.weights.specs.Lists.{listed}
 use Rattle.refusals.specs.Refusals.{Call, weights, modulus_checks, degree_checks, coefficient_checks, weight_checks, job_checks, call_checks, checks, refusal, list_checks, list_refusal}
-use Rattle.refusals.specs.Reading.{above_taken, not_refused}
+use Rattle.refusals.proofs.Reading.{above_taken, not_refused}
 use Rattle.refusals.specs.Judged.{given}
 use Rattle.refusals.specs.Success.{Success}
 use Rattle.resolvents.specs.declared.Cost.{Cost}

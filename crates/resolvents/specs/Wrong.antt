@@ -22,10 +22,10 @@ use Rattle.placements.specs.Places.{replaced}
 use Rattle.definition.specs.Product.{listed, product, values}
 use Rattle.definition.specs.Cost.{lists_up_to, lists}
 use Rattle.refusals.specs.Refusals.{Call, weights, N, refusal, Accepted}
-use Rattle.refusals.specs.Reading.{not_refused}
-use Rattle.refusals.specs.Edges.{outcome, outcome_is}
+use Rattle.refusals.proofs.Reading.{not_refused}
+use Rattle.refusals.proofs.Edges.{outcome, outcome_is}
 use Rattle.refusals.specs.Cases.{Case, cases}
-use Rattle.refusals.specs.CasesHold.{call}
+use Rattle.refusals.proofs.CasesHold.{call}
 use Rattle.resolvents.specs.Promise.{Exit, Promise}
 use Rattle.resolvents.specs.Demands.{CaseNumbers, case_numbers, success_exactly, count_placements}
 

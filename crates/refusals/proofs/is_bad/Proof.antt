@@ -13,7 +13,7 @@ use mir.Val.{to_z, of_z}
 use mir.ValLaws.{to_z-of_z}
 use Rattle.limits.specs.Limits.{largest_weight}
 use Rattle.refusals.specs.Refusals.{zero_or_above, bad_weight}
-use Rattle.refusals.specs.Reading.{zero_taken, above_taken, within}
+use Rattle.refusals.proofs.Reading.{zero_taken, above_taken, within}
 use Rattle.refusals.proofs.is_bad.Statement.{statement}
 use Rattle.refusals.proofs.is_bad.Tie as tie
 

@@ -11,7 +11,7 @@ use Rattle.checks.specs.Laws.{first_both, part_here, part_later, numbered_test, 
 use Rattle.weights.specs.Lists.{listed}
 use Rattle.refusals.specs.declared.Judgement.{Judgement}
 use Rattle.refusals.specs.Refusals.{Call, weights, N, modulus_checks, degree_checks, coefficient_checks, weight_checks, number_checks, room_checks, job_checks, call_checks}
-use Rattle.refusals.specs.Reading.{modulus_numbered, degree_numbered, weight_numbered, number_numbered, degree_good, number_good}
+use Rattle.refusals.proofs.Reading.{modulus_numbered, degree_numbered, weight_numbered, number_numbered, degree_good, number_good}
 use Rattle.refusals.specs.Judged.{given, Judged}
 use Rattle.refusals.proofs.judged.Statement.{statement}
 use Rattle.refusals.proofs.judged.Tie as tie

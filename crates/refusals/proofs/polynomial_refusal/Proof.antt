@@ -7,7 +7,7 @@ use lib.ListN.{length}
 use Rattle.limits.specs.Limits.{highest_degree}
 use Rattle.checks.specs.Laws.{row_here, row_later, row_none}
 use Rattle.refusals.specs.Refusals.{zero_or_above, degree_checks, coefficient_checks}
-use Rattle.refusals.specs.Reading.{zero_taken, above_taken, within}
+use Rattle.refusals.proofs.Reading.{zero_taken, above_taken, within}
 use Rattle.refusals.proofs.polynomial_refusal.Statement.{statement}
 use Rattle.refusals.proofs.polynomial_refusal.Tie as tie
 

@@ -8,7 +8,7 @@ use borrow.Author.Tests.{lt-ltb, le-ltb}
 use Rattle.limits.specs.Limits.{capacity}
 use Rattle.checks.specs.Laws.{row_here, row_later, row_none}
 use Rattle.refusals.specs.Refusals.{zero_or_above, weight_checks}
-use Rattle.refusals.specs.Reading.{zero_taken, above_taken, within}
+use Rattle.refusals.proofs.Reading.{zero_taken, above_taken, within}
 use Rattle.refusals.proofs.weight_refusal.Statement.{statement}
 use Rattle.refusals.proofs.weight_refusal.Tie as tie
 

@@ -6,7 +6,7 @@ use lib.ListN.{length-map}
 use Rattle.weights.specs.Lists.{listed}
 use Rattle.weights.specs.Sizes.{Bounded, job_bounded}
 use Rattle.refusals.specs.Refusals.{list_refusal}
-use Rattle.refusals.specs.Reading.{weight_good}
+use Rattle.refusals.proofs.Reading.{weight_good}
 use Rattle.resolvents.specs.Cost.{alone}
 use Rattle.resolvents.proofs.lists.Statement.{statement}
 use Rattle.resolvents.proofs.lists.Tie as tie
