@@ -29,8 +29,8 @@ pub says_not : {P : Type 0} → (P → ⊥) → (false ≡ true) ↔ P
 says_not n = (λ e. absurd (never_true e), λ p. absurd (n p))
 
 module _ (m : ℕ) (cs : List ℕ) (ws : List ℤ) where
-  pub each_weight : Fits w32 m → ((i : ℕ) → Fits w32 (get_or cs i 0)) → (length cs ≡ 0 → ⊥) → length cs ≤ most_numbers → (length ws ≡ 0 → ⊥) → length ws ≤ most_numbers →
-      (b : Bool) → b ≡ all_small ws → (b ≡ true) ↔ JobHolds (job m cs ws)
+  pub each_weight : Fits w32 m → ((i : ℕ) → Fits w32 (get_or cs i 0)) → (length cs ≡ 0 → ⊥) → length cs ≤ most_numbers
+      → (length ws ≡ 0 → ⊥) → length ws ≤ most_numbers → (b : Bool) → b ≡ all_small ws → (b ≡ true) ↔ JobHolds (job m cs ws)
   each_weight f g a b c d r e = (
     λ h. record {
       modulus = omega arith;

@@ -4,5 +4,3 @@ pub mod Kinds
 pub mod Promises
 pub mod Scan
 pub mod Laws
-pub mod AnyKind
-pub mod Theorems

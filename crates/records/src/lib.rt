@@ -1,4 +1,6 @@
 // The two records of document 01, read and written. A record has one spelling.
+#![tactic(auto)]
+
 ghost use Rattle.std.specs.Prelude.{◌≡◌, true, ◌↔◌, ◌+◌, ◌≤◌, length};
 ghost use Rattle.decimal.specs.Written.{Wrote};
 ghost use Rattle.records.specs.Records.{JobHolds, AnswerHolds, job, answer, job_text, answer_text};

@@ -1,13 +1,12 @@
 -- What is left behind is determined: by a refused call, since nothing lent is touched, and by an answered one, since a job has one answer
 -- and every other word is zero or as it was. And there is such an exit.
-use Rattle.std.specs.Prelude.{◌≡◌, refl, Bool, false, List, ◌++◌, ℕ, ◌≤◌, length, take, drop, replicate}
+use Rattle.std.specs.Prelude.{◌≡◌, refl, Bool, List, ◌++◌, ℕ, ◌≤◌, length, take, drop, replicate}
 use Rattle.std.proofs.Common.{sym, ap₂, ◌∙◌, arith, length-take, take-append-drop, take_at, drop_at}
 use Rattle.std.proofs.Math.Nat.{min-le_left}
 use Rattle.std.proofs.lemmas.List.{length-replicate}
 use Rattle.limits.specs.Limits.{room}
 use Rattle.definition.proofs.Answer.{resolvent}
 use Rattle.refusals.specs.Refusals.{Call, weights, N, GoodCall}
-use Rattle.refusals.specs.Resolved.{Resolved}
 use Rattle.refusals.proofs.ResolvedOnly.{resolved_exists, resolved_only}
 use Rattle.refusals.specs.Success.{Untouched, Success, Same}
 

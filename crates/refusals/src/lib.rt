@@ -1,4 +1,6 @@
 // Whether a job is answered: the checks of the resolvent entry, in document 01's order, with parts that other entries combine.
+#![tactic(auto)]
+
 ghost use Rattle.std.specs.Prelude.{◌≡◌, ◌++◌, suc, ◌%◌, ◌<◌, ◌≤◌, leb, eqb, length, get_or};
 ghost use Rattle.limits.specs.Limits.{capacity, most_placements};
 ghost use Rattle.checks.specs.Checks.{first, some_below};

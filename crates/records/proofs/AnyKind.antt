@@ -7,8 +7,9 @@ use Rattle.std.proofs.Math.Option.{Option, some, none}
 use Rattle.std.proofs.Math.Decide.{dec_lt}
 use Rattle.std.proofs.Math.Seq.{take-append_seam}
 use Rattle.records.specs.declared.Written.{Written}
-use Rattle.records.specs.Put.{over, put_decides}
+use Rattle.records.specs.Put.{over}
 use Rattle.records.specs.Kinds.{IsRecord, Kind, Reads, Writes}
+use Rattle.records.proofs.Puts.{put_decides}
 use Rattle.records.specs.Laws.{Whole, never_some}
 
 pub record Lawful (k : Kind) : Type 0 where

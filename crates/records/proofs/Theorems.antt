@@ -15,7 +15,7 @@ use Rattle.records.specs.Kinds.{IsRecord}
 use Rattle.records.specs.Promises.{AnswerRoom, JobRoom, ReadsAnswer, ReadsJob, WritesAnswer, WritesJob, answer_filled, answer_kind, answer_read, job_filled, job_kind, job_read}
 use Rattle.records.specs.Scan.{read_answer, read_job}
 use Rattle.records.specs.Laws.{answers, jobs}
-use Rattle.records.specs.AnyKind.{Lawful, is_decided, one_spelling, one_text, reads_back, reads_decides, succeeds_exactly, values_are, writes_back, writes_decides}
+use Rattle.records.proofs.AnyKind.{Lawful, is_decided, one_spelling, one_text, reads_back, reads_decides, succeeds_exactly, values_are, writes_back, writes_decides}
 
 -- ---- which values a record can hold is decided
 pub and_decided : {A B : Type 0} → Dec A → Dec B → Dec (A × B)

@@ -1,0 +1,8 @@
+-- The record is the head, the coefficients and the weights one behind the other, so its length is the sum of theirs. Each has a bound, so
+-- no sum wraps.
+use Rattle.std.proofs.Common.{arith}
+use Rattle.records.proofs.Values as values
+use Rattle.records.proofs.job_len.Goals as goal
+
+pub returns : goal.returns
+returns c = let a = c.args in omega (arith, values.job_length a.modulus a.coeffs.now a.weights.now)

@@ -1,0 +1,22 @@
+-- The head and two lines are written one behind the other; the room for all is room for each.
+use Rattle.std.proofs.Common.{arith, rules}
+use Rattle.decimal.proofs.Writes.{room_first, room_second, room_third, wrote_three}
+use Rattle.lines.specs.Lines.{bytes}
+use Rattle.records.specs.Records.{job_text}
+use Rattle.records.proofs.put_job.Goals as goal
+
+pub write_head-a-requires : goal.write_head-a-requires
+unfolding job_text bytes
+write_head-a-requires c = (omega (arith, c.requires.0.coeffs.at_most), search room_first)
+
+pub write_numbers_line-b-requires : goal.write_numbers_line-b-requires
+unfolding job_text bytes
+write_numbers_line-b-requires c = search room_second
+
+pub write_signeds_line-requires : goal.write_signeds_line-requires
+unfolding job_text bytes
+write_signeds_line-requires c = (search rules, search room_third)
+
+pub returns : goal.returns
+unfolding job_text bytes
+returns c = search wrote_three
