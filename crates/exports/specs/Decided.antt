@@ -10,7 +10,7 @@ use Rattle.resolvents.specs.Promise.{Exit, left}
 use Rattle.resolvents.specs.Cost.{told_decides}
 use Rattle.resolvents.specs.Decided.{promise_decides}
 use Rattle.resolvents.specs.Slices.{asked}
-use Rattle.linres_text.specs.Theorems as texts
+use Rattle.linres_text.proofs.Theorems as texts
 use Rattle.exports.specs.Promises.{TextPromise, NumbersPromise, CostPromise, mark_word}
 use Rattle.exports.specs.Promises.{JobReaderPromise, AnswerReaderPromise, WriterPromise, WritesMarked, JobWriterPromise, AnswerWriterPromise}
 

@@ -22,7 +22,7 @@ use Rattle.records.specs.Promises.{ReadsJob, WritesAnswer, job_read}
 use Rattle.records.specs.Theorems.{read_job_exactly, read_job_values, job_values, job_one_spelling}
 use Rattle.linres_text.specs.Texts.{job_refusal, AnswerTo, TextOf}
 use Rattle.linres_text.specs.Promise.{Puts}
-use Rattle.linres_text.specs.Jobs.{N_of, Good, good_exactly, entry_number, answer_holds}
+use Rattle.linres_text.proofs.Jobs.{N_of, Good, good_exactly, entry_number, answer_holds}
 
 -- ---- a job
 -- the entry was called with it and with room for every N: `e` came back, and `words` and `rest` stand in the two slices

@@ -1,4 +1,6 @@
 // Reads and writes records at their edges, and prints what came out: the numbers of each answer, what is left of the slices, and the texts.
+#![tactic(auto)]
+
 ghost use Rattle.std.specs.Prelude.{◌≤◌};
 
 use records::Written;

@@ -2,7 +2,7 @@
 use native.Mathlib.Omega.{arith}
 use borrow.Author.Rules.{rules}
 use Rattle.records.specs.Put.{no_room, put_there}
-use Rattle.linres_text.specs.Lengths.{refused_length}
+use Rattle.linres_text.proofs.Lengths.{refused_length}
 use Rattle.linres_text.proofs.refuse.Statement.{statement}
 use Rattle.linres_text.proofs.refuse.Tie as tie
 

@@ -12,8 +12,8 @@ use Rattle.records.specs.Records.{Job, JobHolds, job_text, answer, answer_text}
 use Rattle.records.specs.Theorems.{is_job}
 use Rattle.linres_text.specs.Texts.{job_refusal, AnswerTo, TextOf}
 use Rattle.linres_text.specs.Promise.{Puts}
-use Rattle.linres_text.specs.Jobs.{good_exactly, answer_holds}
-use Rattle.linres_text.specs.Lengths.{job_length, answer_length, refused_short, refusal_at_most}
+use Rattle.linres_text.proofs.Jobs.{good_exactly, answer_holds}
+use Rattle.linres_text.proofs.Lengths.{job_length, answer_length, refused_short, refusal_at_most}
 
 -- ---- one text, one answer
 answer_decides : (j : Job) (a b : List ℕ) → AnswerTo j a → AnswerTo j b → a ≡ b

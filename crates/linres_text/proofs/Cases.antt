@@ -10,7 +10,7 @@ use Rattle.lines.specs.Lines.{bytes}
 use Rattle.records.specs.Records.{Job, job, job_text, answer, answer_text}
 use Rattle.records.specs.Theorems.{example_job, example_answer}
 use Rattle.linres_text.specs.Texts.{TextOf}
-use Rattle.linres_text.specs.Demands.{answered}
+use Rattle.linres_text.proofs.Demands.{answered}
 
 pub case_text : (k : Case) → Memᴰ k cases → (out : List ℕ) → TextOf (job_text (job 257 k.f k.weights)) out
     → out ≡ answer_text (answer 257 k.mark k.resolvent)
