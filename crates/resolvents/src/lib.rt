@@ -1,4 +1,6 @@
 // The resolvent entry: numbers in, the resolvent's coefficients or a refusal out (document 01).
+#![tactic(auto)]
+
 ghost use Rattle.std.specs.Prelude.{◌≡◌, false, ◌≤◌, length};
 ghost use Rattle.weights.specs.Lists.{listed};
 ghost use Rattle.refusals.specs.Judged.{given};
