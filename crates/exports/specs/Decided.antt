@@ -4,10 +4,10 @@ use Rattle.std.proofs.Common.{sym, ap, ◌∙◌, arith}
 use Rattle.records.specs.declared.AnswerRead.{AnswerRead}
 use Rattle.records.specs.declared.JobRead.{JobRead}
 use Rattle.records.specs.declared.Written.{Written}
-use Rattle.records.specs.Theorems.{read_answer_decides, read_job_decides, write_answer_decides, write_job_decides}
+use Rattle.records.proofs.Theorems.{read_answer_decides, read_job_decides, write_answer_decides, write_job_decides}
 use Rattle.resolvents.specs.declared.Cost.{Cost}
 use Rattle.resolvents.specs.Promise.{Exit, left}
-use Rattle.resolvents.specs.Cost.{told_decides}
+use Rattle.resolvents.proofs.Costs.{told_decides}
 use Rattle.resolvents.specs.Decided.{promise_decides}
 use Rattle.resolvents.specs.Slices.{asked}
 use Rattle.linres_text.proofs.Theorems as texts

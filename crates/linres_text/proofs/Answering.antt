@@ -19,7 +19,7 @@ use Rattle.records.specs.declared.Written.{Written}
 use Rattle.records.specs.Put.{Put}
 use Rattle.records.specs.Records.{Job, JobHolds, job, job_text, AnswerHolds, answer, answer_text}
 use Rattle.records.specs.Promises.{ReadsJob, WritesAnswer, job_read}
-use Rattle.records.specs.Theorems.{read_job_exactly, read_job_values, job_values, job_one_spelling}
+use Rattle.records.proofs.Theorems.{read_job_exactly, read_job_values, job_values, job_one_spelling}
 use Rattle.linres_text.specs.Texts.{job_refusal, AnswerTo, TextOf}
 use Rattle.linres_text.specs.Promise.{Puts}
 use Rattle.linres_text.proofs.Jobs.{N_of, Good, good_exactly, entry_number, answer_holds}

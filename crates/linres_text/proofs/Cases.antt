@@ -8,7 +8,7 @@ use Rattle.refusals.specs.Cases.{Case, cases, Holds}
 use Rattle.refusals.proofs.CasesHold.{table}
 use Rattle.lines.specs.Lines.{bytes}
 use Rattle.records.specs.Records.{Job, job, job_text, answer, answer_text}
-use Rattle.records.specs.Theorems.{example_job, example_answer}
+use Rattle.records.proofs.Theorems.{example_job, example_answer}
 use Rattle.linres_text.specs.Texts.{TextOf}
 use Rattle.linres_text.proofs.Demands.{answered}
 

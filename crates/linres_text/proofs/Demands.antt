@@ -21,7 +21,7 @@ use Rattle.decimal.specs.Scan.{got, digit_of, number}
 use Rattle.decimal.specs.NumberLaws.{numbers}
 use Rattle.lines.specs.Lines.{bytes, head_text, refused_line}
 use Rattle.records.specs.Records.{Answer, Job, JobHolds, job, job_text, answer, answer_text}
-use Rattle.records.specs.Theorems.{is_job, job_one_spelling}
+use Rattle.records.proofs.Theorems.{is_job, job_one_spelling}
 use Rattle.linres_text.specs.Texts.{rows_of, job_refusal, AnswerRecord, AnswerTo, TextOf}
 use Rattle.linres_text.proofs.Jobs.{Good, good_exactly, good_holds}
 use Rattle.linres_text.proofs.Lengths.{job_length, refusal_at_most, row_number_at_most}

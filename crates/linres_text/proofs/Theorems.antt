@@ -7,9 +7,9 @@ use Rattle.std.proofs.Math.Seq.{take-append_seam}
 use Rattle.limits.specs.Limits.{longest_text, longest_answer}
 use Rattle.refusals.proofs.ResolvedOnly.{resolved_only}
 use Rattle.records.specs.declared.Written.{Written}
-use Rattle.records.specs.Put.{put_decides}
+use Rattle.records.proofs.Puts.{put_decides}
 use Rattle.records.specs.Records.{Job, JobHolds, job_text, answer, answer_text}
-use Rattle.records.specs.Theorems.{is_job}
+use Rattle.records.proofs.Theorems.{is_job}
 use Rattle.linres_text.specs.Texts.{job_refusal, AnswerTo, TextOf}
 use Rattle.linres_text.specs.Promise.{Puts}
 use Rattle.linres_text.proofs.Jobs.{good_exactly, answer_holds}

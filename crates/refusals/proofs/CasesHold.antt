@@ -22,7 +22,7 @@ use Rattle.polynomials.proofs.Certificates.{Certificate, bezout, common, shown, 
 use Rattle.definition.specs.Definition.{nth, sum₁}
 use Rattle.definition.proofs.Rules.{T_up_to, T}
 use Rattle.definition.proofs.Answer.{grow, next_sum, sums, next_coefficient, coefficients, divided, answer, resolvent}
-use Rattle.refusals.specs.Refusals.{Call, zero_or_above, modulus_checks, degree_checks, coefficient_checks, weight_checks, number_checks, job_checks, GoodJob, Accepted}
+use Rattle.refusals.specs.Refusals.{Call, weights, zero_or_above, modulus_checks, degree_checks, coefficient_checks, weight_checks, number_checks, job_checks, GoodJob, Accepted}
 use Rattle.refusals.proofs.Reading.{job_good}
 use Rattle.refusals.proofs.ResolvedOnly.{divisors_apart, worked_out}
 use Rattle.refusals.specs.Cases.{Case, cases, Holds}
@@ -96,7 +96,7 @@ call k more output work = record { p = 257; f = k.f; places = k.weights ++ more;
 pub case_accepted : (k : Case) → Holds k → (more : List ℤ) (output work : List ℕ) → length k.resolvent ≤ length output → room (length k.resolvent) ≤ length work
     → Accepted (call k more output work)
 case_accepted k h more output work o w =
-    let seam = take-append_seam k.weights more in
+    let seam : weights (call k more output work) ≡ k.weights = take-append_seam k.weights more in
     let size = h.resolved.resolvent.size in
     record {
       good = record { job = rw seam h.good; rooms = rw seam (record { output_fits = rw (← size) o; work_fits = rw (← size) w }) };

@@ -1,1 +1,2 @@
+pub mod Costs
 pub mod Kept

@@ -1,7 +1,7 @@
 -- The line has nine bytes beside the number's digits, so what is compared is its length.
 use native.Mathlib.Omega.{arith}
 use borrow.Author.Rules.{rules}
-use Rattle.records.specs.Put.{no_room, put_there}
+use Rattle.records.proofs.Puts.{no_room, put_there}
 use Rattle.linres_text.proofs.Lengths.{refused_length}
 use Rattle.linres_text.proofs.refuse.Statement.{statement}
 use Rattle.linres_text.proofs.refuse.Tie as tie

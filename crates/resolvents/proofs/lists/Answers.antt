@@ -6,7 +6,7 @@ use Rattle.weights.specs.Lists.{listed}
 use Rattle.weights.specs.Sizes.{Bounded, job_bounded}
 use Rattle.refusals.specs.Refusals.{list_refusal}
 use Rattle.refusals.proofs.Reading.{weight_good}
-use Rattle.resolvents.specs.Cost.{alone}
+use Rattle.resolvents.proofs.Costs.{alone}
 use Rattle.resolvents.proofs.lists.Goals as goal
 use Rattle.resolvents.proofs.lists.Goals.{After-weight_refusal-row, Else-row-ne0}
 
