@@ -8,7 +8,7 @@ use Rattle.records.proofs.Theorems.{read_answer_decides, read_job_decides, write
 use Rattle.resolvents.specs.declared.Cost.{Cost}
 use Rattle.resolvents.specs.Promise.{Exit, left}
 use Rattle.resolvents.proofs.Costs.{told_decides}
-use Rattle.resolvents.specs.Decided.{promise_decides}
+use Rattle.resolvents.proofs.Decided.{promise_decides}
 use Rattle.resolvents.specs.Slices.{asked}
 use Rattle.linres_text.proofs.Theorems as texts
 use Rattle.exports.specs.Promises.{TextPromise, NumbersPromise, CostPromise, mark_word}

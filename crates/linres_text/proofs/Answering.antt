@@ -17,7 +17,7 @@ use Rattle.lines.specs.Lines.{refused_line}
 use Rattle.records.specs.declared.JobRead.{JobRead}
 use Rattle.records.specs.declared.Written.{Written}
 use Rattle.records.specs.Put.{Put}
-use Rattle.records.specs.Records.{Job, JobHolds, job, job_text, AnswerHolds, answer, answer_text}
+use Rattle.records.specs.Records.{Job, JobHolds, job_text, AnswerHolds, answer, answer_text}
 use Rattle.records.specs.Promises.{ReadsJob, WritesAnswer, job_read}
 use Rattle.records.proofs.Theorems.{read_job_exactly, read_job_values, job_values, job_one_spelling}
 use Rattle.linres_text.specs.Texts.{job_refusal, AnswerTo, TextOf}

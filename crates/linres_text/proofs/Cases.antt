@@ -2,7 +2,7 @@
 use Rattle.std.specs.Prelude.{◌≡◌, refl, ℕ}
 use Rattle.std.proofs.Common.{ap₂, ◌∙◌, le_refl}
 use mathlib.Core.List.Memᴰ.{tail as later}
-use mathlib.Core.List.{List, [], Memᴰ}
+use mathlib.Core.List.{List, Memᴰ}
 use Rattle.refusals.proofs.ResolvedOnly.{resolved_only}
 use Rattle.refusals.specs.Cases.{Case, cases, Holds}
 use Rattle.refusals.proofs.CasesHold.{table}

@@ -1,4 +1,6 @@
 // From the text of a job to the text of its answer: all that the program `linres` does between reading and writing.
+#![tactic(auto)]
+
 ghost use Rattle.lines.specs.Lines.{refused_line};
 ghost use Rattle.records.specs.Records.{job};
 ghost use Rattle.records.specs.Put.{Put};

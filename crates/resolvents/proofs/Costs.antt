@@ -4,7 +4,7 @@ use Rattle.std.specs.Prelude.{◌≡◌, refl, Bool, true, false, ℕ, ltb, ℤ}
 use Rattle.std.proofs.Common.{sym, ◌∙◌, le_refl, arith, le-ltb}
 use mathlib.Core.List.{List, [], ◌∷◌}
 use Rattle.limits.specs.Limits.{capacity}
-use Rattle.checks.specs.Checks.{first, Answers}
+use Rattle.checks.specs.Checks.{first}
 use Rattle.checks.specs.Laws.{first_holds, first_passes, answers_decide}
 use Rattle.definition.specs.Cost.{lists}
 use Rattle.refusals.specs.Refusals.{Call, weights, zero_or_above, some_bad, list_checks, list_refusal, refusal}

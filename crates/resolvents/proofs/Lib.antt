@@ -1,2 +1,5 @@
+pub mod Demands
+pub mod Decided
+pub mod Wrong
 pub mod Costs
 pub mod Kept

@@ -29,7 +29,9 @@ returns-then-p-gt-LARGEST_MODULUS c = let p = c.args.p in row_here _ _ (or_right
 
 pub returns-then-is_prime : goal.returns-then-is_prime
 unfolding modulus_checks
-returns-then-is_prime c = row_later _ _ (within_limits (goal.at.returns-then-is_prime c).Else-p-gt-LARGEST_MODULUS) (row_later _ _ (ap not ((is_prime_iff _).1 (c.is_prime.ensures.0 c.if-is_prime.true))) row_none)
+returns-then-is_prime c =
+    row_later _ _ (within_limits (goal.at.returns-then-is_prime c).Else-p-gt-LARGEST_MODULUS)
+    (row_later _ _ (ap not ((is_prime_iff _).1 (c.is_prime.ensures.0 c.if-is_prime.true))) row_none)
 
 pub returns-else-is_prime : goal.returns-else-is_prime
 unfolding modulus_checks

@@ -29,7 +29,9 @@ returns-then-r-n c = row_later _ _ (count_within (goal.at.returns-then-r-n c).El
 
 pub returns-then-has_bad : goal.returns-then-has_bad
 unfolding weight_checks
-returns-then-has_bad c = row_later _ _ (count_within (goal.at.returns-then-has_bad c).Else-r-gt-CAPACITY) (row_later _ _ (le-ltb _ _ c.if-r-n.false) (row_here _ _ (sym c.has_bad.ensures ∙ c.if-has_bad.true)))
+returns-then-has_bad c =
+    row_later _ _ (count_within (goal.at.returns-then-has_bad c).Else-r-gt-CAPACITY)
+    (row_later _ _ (le-ltb _ _ c.if-r-n.false) (row_here _ _ (sym c.has_bad.ensures ∙ c.if-has_bad.true)))
 
 pub returns-else-has_bad : goal.returns-else-has_bad
 unfolding weight_checks

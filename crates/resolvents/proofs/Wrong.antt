@@ -27,7 +27,7 @@ use Rattle.refusals.proofs.Edges.{outcome, outcome_is}
 use Rattle.refusals.specs.Cases.{Case, cases}
 use Rattle.refusals.proofs.CasesHold.{call}
 use Rattle.resolvents.specs.Promise.{Exit, Promise}
-use Rattle.resolvents.specs.Demands.{CaseNumbers, case_numbers, success_exactly, count_placements}
+use Rattle.resolvents.proofs.Demands.{CaseNumbers, case_numbers, success_exactly, count_placements}
 
 -- an entry that keeps the promise: what it leaves behind at each call
 abbrev Keeps : (Call → Exit) → Type 0
