@@ -1,5 +1,7 @@
 // Document 01's cases A to L and the calls at its edges, through the resolvent entry, and then as texts. Each line tells what came
 // back: the code, N, the mark, the number of lists worked and the first words of output.
+#![tactic(auto)]
+
 mod texts;
 
 use resolvents::Outcome;

@@ -1,4 +1,6 @@
 // The services for programs in other languages (bindings/linres.h): numbers and slices in and out, no struct and no array.
+#![tactic(auto)]
+
 ghost use Rattle.exports.specs.Promises.{TextPromise, NumbersPromise, CostPromise};
 ghost use Rattle.exports.specs.Promises.{JobReaderPromise, AnswerReaderPromise, JobWriterPromise, AnswerWriterPromise};
 
