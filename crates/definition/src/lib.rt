@@ -1,1 +1,1 @@
-// The definition of the resolvent, and the theorems about it, are specifications only.
+// The definition of the resolvent in specs/, the theorems about it in proofs/, no function.

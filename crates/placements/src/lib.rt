@@ -1,1 +1,1 @@
-// The mathematics of laying weights on roots is specifications only.
+// The mathematics of laying weights on roots: definitions in specs/, what is proved of them in proofs/, no function.
