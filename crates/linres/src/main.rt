@@ -1,6 +1,6 @@
 // Reads one job from standard input and writes its answer to standard output (document 01). Where a read or a write fails, one line goes
-// to standard error, and no part of a text is judged. The exit status is 0 all the same: a caller of this program looks at standard
-// error, or starts it by the command ./linres.
+// to standard error, and no part of a text is judged. The exit status is 0 all the same, where that line could be written: a caller of
+// this program looks at standard error, or starts it by the command ./linres.
 #![tactic(auto)]
 
 ghost use Rattle.std.specs.Prelude.{length};
