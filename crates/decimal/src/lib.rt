@@ -14,27 +14,27 @@ const LEAST_WRITTEN: i32 = -limits::LARGEST_WRITTEN;
 const LARGEST_SIZE: u32 = limits::LARGEST_WRITTEN as u32;
 
 // A place in a text.
-#[derive(Drop)]
+#[derive(Clone, Copy)]
 pub struct Cursor {
     pub at: usize,
 }
 
 // What stands at the front of a part: a number, with the place behind it, or none.
-#[derive(Drop)]
+#[derive(Clone, Copy)]
 pub enum Number {
     Value(u32, Cursor),
     Bad,
 }
 
 // The same for a number that may have a minus sign.
-#[derive(Drop)]
+#[derive(Clone, Copy)]
 pub enum Signed {
     Of(i32, Cursor),
     None,
 }
 
 // How many numbers stand in a line, and the place behind its line feed.
-#[derive(Drop)]
+#[derive(Clone, Copy)]
 pub enum Listed {
     Of(usize, Cursor),
     None,

@@ -20,7 +20,8 @@ use Rattle.residues.specs.Residues.{residues, Words, Z, reduce, ring, laws, word
 use Rattle.residues.specs.Field.{inverse, nat_inverse, below_apart}
 use Rattle.placements.specs.Placements.{factorials, placed}
 use Rattle.definition.specs.Definition.{nth, newton, newton_back, Rule₁, Resolvent}
-use Rattle.definition.proofs.Rules.{nth_suc, newton_cong, newton_back_cong, T, T_meets}
+use Rattle.definition.specs.Rules.{T}
+use Rattle.definition.proofs.Rules.{nth_suc, newton_cong, newton_back_cong, T_meets}
 use Rattle.definition.proofs.Carry.{carry}
 use Rattle.definition.proofs.Roots.{two_cases}
 use Rattle.definition.proofs.Words.{factorials_apart, one_list_of_words}

@@ -17,7 +17,8 @@ use Rattle.placements.specs.Placements.{count, except, different}
 use Rattle.placements.specs.Places.{replaced}
 use Rattle.placements.proofs.Merge.{replaced_length, different_length, merge}
 use Rattle.definition.specs.Definition.{Rule₂}
-use Rattle.definition.proofs.Rules.{by_length, spread_cong, T, T_meets, same_T}
+use Rattle.definition.specs.Rules.{T}
+use Rattle.definition.proofs.Rules.{by_length, spread_cong, T_meets, same_T}
 use Rattle.definition.proofs.Order.{powers_times, T_mix, T_perm}
 use Rattle.definition.specs.Cost.{met, merged, MergedRule₂, NumberOfLists, lists_up_to, lists, most_lists}
 

@@ -19,7 +19,8 @@ use Rattle.algebra.specs.Mix.{mix, mix_add, mix_neg, mix_total, mix_swap}
 use Rattle.algebra.specs.Natural.{strong}
 use Rattle.placements.proofs.Laying.{collisions, collisions_cons}
 use Rattle.placements.proofs.Collisions.{collisions_places, collisions_swap, collisions_perm, perm_length}
-use Rattle.definition.proofs.Rules.{T, T_cons}
+use Rattle.definition.specs.Rules.{T}
+use Rattle.definition.proofs.Rules.{T_cons}
 
 module _ {A : Type 0} (o : Ops A) where
   -- the powers of e times u

@@ -20,7 +20,8 @@ use Rattle.placements.proofs.Laying.{layings, layings_empty, collide_powers}
 use Rattle.placements.proofs.Collisions.{collisions_places}
 use Rattle.placements.proofs.Number.{layings_placements}
 use Rattle.definition.specs.Definition.{Resolvent}
-use Rattle.definition.proofs.Rules.{by_length, told_by_cong, T, T_nil, T_cons, T_meets}
+use Rattle.definition.specs.Rules.{T}
+use Rattle.definition.proofs.Rules.{by_length, told_by_cong, T_nil, T_cons, T_meets}
 use Rattle.definition.specs.Product.{product, values}
 use Rattle.definition.proofs.Products.{length_values, length_product}
 use Rattle.definition.proofs.Roots.{newton_for_roots, sums_of_roots}

@@ -1,3 +1,4 @@
 pub mod Definition
+pub mod Rules
 pub mod Product
 pub mod Cost

@@ -12,14 +12,14 @@ ghost use Rattle.lines.specs.Scan.{starts, one_line, keyed, head, mark, head_of,
 use decimal::{Cursor, Listed, Number};
 
 // The first two lines: modulus, degree and the place behind them.
-#[derive(Drop)]
+#[derive(Clone, Copy)]
 pub enum Head {
     Of(u32, u32, Cursor),
     None,
 }
 
 // The line of the mark, and the place behind it.
-#[derive(Drop)]
+#[derive(Clone, Copy)]
 pub enum Mark {
     Of(bool, Cursor),
     None,

@@ -12,7 +12,8 @@ use Rattle.algebra.specs.Integer.{ℤ_eq}
 use Rattle.placements.specs.Placements.{factorials, placed}
 use Rattle.definition.specs.Definition.{Rule₁, Resolvent}
 use Rattle.definition.specs.Product.{product, values}
-use Rattle.definition.proofs.Rules.{T, T_meets, same_T}
+use Rattle.definition.specs.Rules.{T}
+use Rattle.definition.proofs.Rules.{T_meets, same_T}
 use Rattle.definition.proofs.OneAnswer.{same_sums, one_answer}
 use Rattle.definition.proofs.Carry.{hom_Rule₁, hom_Rule₂, carry}
 use Rattle.definition.proofs.Roots.{sums_of_roots}

@@ -13,7 +13,7 @@ use decimal::{Cursor, Listed};
 use lines::{Head, Mark};
 
 // What reading a job gives: the number 0 or that of the refusal, the modulus, how many coefficients, how many weights.
-#[derive(Drop)]
+#[derive(Clone, Copy)]
 pub struct JobRead {
     pub code: u32,
     pub modulus: u32,
@@ -22,7 +22,7 @@ pub struct JobRead {
 }
 
 // The same for an answer, with its mark.
-#[derive(Drop)]
+#[derive(Clone, Copy)]
 pub struct AnswerRead {
     pub code: u32,
     pub modulus: u32,
@@ -31,7 +31,7 @@ pub struct AnswerRead {
 }
 
 // What writing a record gives: the number 0 or that of the refusal, and the record's length.
-#[derive(Drop)]
+#[derive(Clone, Copy)]
 pub struct Written {
     pub code: u32,
     pub len: usize,

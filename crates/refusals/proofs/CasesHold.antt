@@ -20,7 +20,7 @@ use Rattle.placements.specs.Placements.{prod, count, except, different, factoria
 use Rattle.placements.specs.Places.{with_sum}
 use Rattle.polynomials.proofs.Certificates.{Certificate, bezout, common, shown, mark_test, mark_test_right}
 use Rattle.definition.specs.Definition.{nth, sum₁}
-use Rattle.definition.proofs.Rules.{T_up_to, T}
+use Rattle.definition.specs.Rules.{T_up_to, T}
 use Rattle.definition.proofs.Answer.{grow, next_sum, sums, next_coefficient, coefficients, divided, answer, resolvent}
 use Rattle.refusals.specs.Refusals.{Call, weights, zero_or_above, modulus_checks, degree_checks, coefficient_checks, weight_checks, number_checks, job_checks, GoodJob, Accepted}
 use Rattle.refusals.proofs.Reading.{job_good}

@@ -122,7 +122,7 @@ fn room_refusal(n: usize, output: usize, work: usize) -> u32
 }
 
 // What is known of a call that is judged: its number and, where that is 0, N and the product of m!.
-#[derive(Drop)]
+#[derive(Clone, Copy)]
 pub struct Judgement {
     pub code: u32,
     pub count: usize,

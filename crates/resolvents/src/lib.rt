@@ -15,7 +15,7 @@ use weights::Weights;
 const SCRATCH: usize = 2 * (limits::HIGHEST_DEGREE + 1);
 
 // The number of the first rule broken, or 0; N; the mark; the number of weight lists worked.
-#[derive(Drop)]
+#[derive(Clone, Copy)]
 pub struct Outcome {
     pub code: u32,
     pub count: usize,
@@ -91,7 +91,7 @@ pub fn resolvent_for(
 }
 
 // What a job costs, told before it is worked: the number of row 6 or 8, or 0; the number of weight lists.
-#[derive(Drop)]
+#[derive(Clone, Copy)]
 pub struct Cost {
     pub code: u32,
     pub lists: u32,
