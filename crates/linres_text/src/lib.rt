@@ -40,7 +40,8 @@ fn answer_job(p: u32, f: &[u32], weights: &[i32], out: &mut [u8]) -> Written
 pub fn answer_text(text: &[u8], out: &mut [u8]) -> Written
     ensures { Puts (TextOf text.now) out.old result out.new }
 {
-    if limits::LONGEST_TEXT < text.len() {
+    let long = limits::LONGEST_TEXT < text.len();
+    if long {
         return refuse(1, out);
     }
     let mut coeffs = [0u32; limits::MOST_NUMBERS];

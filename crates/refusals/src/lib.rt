@@ -17,7 +17,8 @@ fn modulus_refusal(p: u32) -> u32
     if p < limits::LEAST_MODULUS {
         return 2;
     }
-    if p > limits::LARGEST_MODULUS {
+    let large = p > limits::LARGEST_MODULUS;
+    if large {
         return 2;
     }
     if primes::is_prime(p) { 0 } else { 3 }

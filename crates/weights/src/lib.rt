@@ -91,11 +91,8 @@ impl Weights {
         ensures { (result ≡ length (listed self)) × (result ≤ capacity) }
     {
         let n = self.len;
-        if n < limits::CAPACITY {
-            n
-        } else {
-            limits::CAPACITY
-        }
+        let inside = n < limits::CAPACITY;
+        if inside { n } else { limits::CAPACITY }
     }
 
     // The weight at a place, 0 past the last.

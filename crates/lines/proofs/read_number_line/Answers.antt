@@ -20,14 +20,14 @@ pub returns-then-byte_at-ne10 : goal.returns-then-byte_at-ne10
 returns-then-byte_at-ne10 c = steps.line_open (found (goal.at.returns-then-byte_at-ne10 c).After-byte_at) c.if-byte_at-ne10.true
 
 pub overflow_add-result : goal.overflow_add-result
-overflow_add-result c = omega (arith, steps.line_fits (found (goal.at.overflow_add-result c).After-byte_at) c.if-byte_at-ne10.false)
+overflow_add-result c = omega (arith, steps.line_fits (found (goal.at.overflow_add-result c).After-byte_at) (omega arith))
 
 pub overflow_add-result-then-has_key : goal.overflow_add-result-then-has_key
 overflow_add-result-then-has_key c =
-    omega (arith, steps.line_fits (found (goal.at.overflow_add-result-then-has_key c).After-byte_at) c.if-byte_at-ne10.false)
+    omega (arith, steps.line_fits (found (goal.at.overflow_add-result-then-has_key c).After-byte_at) (omega arith))
 
 pub returns-then-has_key : goal.returns-then-has_key
-returns-then-has_key c = steps.line_good (found (goal.at.returns-then-has_key c).After-byte_at) c.if-byte_at-ne10.false
+returns-then-has_key c = steps.line_good (found (goal.at.returns-then-has_key c).After-byte_at) (omega arith)
 
 pub returns : goal.returns
 returns c = search steps.line_no_key

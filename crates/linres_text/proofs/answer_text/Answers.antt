@@ -7,8 +7,8 @@ use Rattle.linres_text.proofs.answer_text.Goals.{After-read_job-job}
 in_room : (c : After-read_job-job) → Read c.args.text.now c.read_job-job.result
 in_room c = record { coeffs = _; weights = _; cs = _; ws = _; read = c.read_job-job.ensures; coeffs_long = search rules; weights_long = search rules }
 
-pub returns-then-text-gt-LONGEST_TEXT : goal.returns-then-text-gt-LONGEST_TEXT
-returns-then-text-gt-LONGEST_TEXT c = too_long c.args.text.now _ _ _ c.if-text-gt-LONGEST_TEXT.true c.refuse.ensures
+pub returns-then-long : goal.returns-then-long
+returns-then-long c = too_long c.args.text.now _ _ _ c.if-long.true c.refuse.ensures
 
 pub returns-then-row-ne0 : goal.returns-then-row-ne0
 returns-then-row-ne0 c = no_job c.args.text.now (in_room (goal.at.returns-then-row-ne0 c).After-read_job-job) _ _ _ c.if-row-ne0.true c.refuse-then-row-ne0.ensures
@@ -22,4 +22,4 @@ slice_bounds-weights-end c = omega (arith, (counts _ (in_room (goal.at.slice_bou
 pub returns : goal.returns
 unfolding in_room
 returns c =
-    a_job c.args.text.now (in_room (goal.at.returns c).After-read_job-job) (omega arith) _ _ _ c.if-text-gt-LONGEST_TEXT.false c.answer_job.ensures
+    a_job c.args.text.now (in_room (goal.at.returns c).After-read_job-job) (omega arith) _ _ _ c.if-long.false c.answer_job.ensures

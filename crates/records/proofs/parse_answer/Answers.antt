@@ -88,5 +88,5 @@ returns c =
     let at = goal.at.returns c in
     let n = at.In-Of-read_numbers_line in
     parses.answer_some t
-    (parses.record_read answer_format t (head_line at.In-Of) (mark_line at.In-Of-read_mark) (coeffs n) c.if-end-second.false (c.if-degree-count.false ∙ sym (coeffs_count n)))
+    (parses.record_read answer_format t (head_line at.In-Of) (mark_line at.In-Of-read_mark) (coeffs n) c.if-end-second.false (omega (arith, coeffs_count n)))
     (coeffs_count n)

@@ -95,5 +95,5 @@ returns c =
     let at = goal.at.returns c in
     let n = at.In-Of-read_numbers_line in
     parses.job_some t
-    (parses.record_read job_format t (head_line at.In-Of) (coeffs n) (weights at.In-Of-read_signeds_line) c.if-end-second.false (c.if-degree-n.false ∙ sym (coeffs_count n)))
+    (parses.record_read job_format t (head_line at.In-Of) (coeffs n) (weights at.In-Of-read_signeds_line) c.if-end-second.false (omega (arith, coeffs_count n)))
     (coeffs_count n) (parses.counted c.read_signeds_line.ensures c.in-Of-read_signeds_line.is)

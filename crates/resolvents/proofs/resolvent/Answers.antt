@@ -49,7 +49,7 @@ inverse-inverse-requires c =
     let p = passed (goal.at.inverse-inverse-requires c).Else-job-ne0 in
     record {
       prime = (good p).job.modulus.prime;
-      k_nonzero = (pos_of_ne-zero (product_apart p c.divisor_refusal-divisor.ensures c.if-divisor-ne0.false), mod-lt _ (positive p));
+      k_nonzero = (pos_of_ne-zero (product_apart p c.divisor_refusal-divisor.ensures (omega arith)), mod-lt _ (positive p));
     }
 
 pub answer-lists-requires : goal.answer-lists-requires
@@ -77,5 +77,5 @@ clear-requires c = omega (arith, c.answer-lists.ensures.1.work_same, work_room (
 
 pub returns : goal.returns
 returns c =
-    done_kept (passed (goal.at.returns c).Else-job-ne0) c.divisor_refusal-divisor.ensures c.if-divisor-ne0.false _ _ _ _ _
+    done_kept (passed (goal.at.returns c).Else-job-ne0) c.divisor_refusal-divisor.ensures (omega arith) _ _ _ _ _
     c.simple-simple.ensures.variant c.answer-lists.ensures.0 c.answer-lists.ensures.1 c.clear.ensures

@@ -4,8 +4,8 @@ use Rattle.std.proofs.Common.{arith}
 use Rattle.weights.specs.Laws.{listed_min}
 use Rattle.weights.proofs.Weights.held.Goals as goal
 
-pub returns-then-n-lt-CAPACITY : goal.returns-then-n-lt-CAPACITY
-returns-then-n-lt-CAPACITY c = (omega (arith, listed_min c.args.self), omega arith)
+pub returns-then-inside : goal.returns-then-inside
+returns-then-inside c = (omega (arith, listed_min c.args.self), omega arith)
 
-pub returns-else-n-lt-CAPACITY : goal.returns-else-n-lt-CAPACITY
-returns-else-n-lt-CAPACITY c = (omega (arith, listed_min c.args.self), omega arith)
+pub returns-else-inside : goal.returns-else-inside
+returns-else-inside c = (omega (arith, listed_min c.args.self), omega arith)
