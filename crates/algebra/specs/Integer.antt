@@ -4,7 +4,8 @@
 use Rattle.std.specs.Prelude.{◌≡◌, ℕ, zero, suc, ℤ, pos, negsuc, neg_ℤ, ◌+ℤ◌, ◌*ℤ◌}
 use Rattle.std.proofs.Common.{sym, ap, ap₂, ◌∙◌}
 use Rattle.std.proofs.Math.Decide.{ℕ_discrete}
-use Rattle.std.proofs.Math.IntN.{pos-ne-negsuc, suc_ℤ, pred_ℤ, ℤ_set, +ℤ_assoc, +ℤ_comm, +ℤ_idl, +ℤ_idr, +ℤ_invr, +ℤ_invl, +ℤ-neg_ℤ_cancel, neg_ℤ-+ℤ, *ℤ_comm, *ℤ-one, zero-*ℤ, suc_ℤ-*ℤ, pred_ℤ-*ℤ}
+use Rattle.std.proofs.Math.IntN.{pos-ne-negsuc, suc_ℤ, pred_ℤ, ℤ_set, +ℤ_assoc, +ℤ_comm, +ℤ_idl, +ℤ_idr, +ℤ_invr, +ℤ_invl}
+use Rattle.std.proofs.Math.IntN.{+ℤ-neg_ℤ_cancel, neg_ℤ-+ℤ, *ℤ_comm, *ℤ-one, zero-*ℤ, suc_ℤ-*ℤ, pred_ℤ-*ℤ}
 use Rattle.std.proofs.Math.IntN as I
 use Rattle.algebra.specs.Ring.{Ops, Laws}
 use Rattle.algebra.specs.Hom.{Hom}
@@ -46,7 +47,8 @@ every P z up down (ℤ.negsuc (suc n)) = down (ℤ.negsuc n) (every P z up down 
 *ℤ-+ℤ a b c = every (λ m. m *ℤ (b +ℤ c) ≡ m *ℤ b +ℤ m *ℤ c)
     (zero-*ℤ (b +ℤ c) ∙ sym (ap₂ ◌+ℤ◌ (zero-*ℤ b) (zero-*ℤ c)))
     (λ m h. suc_ℤ-*ℤ m (b +ℤ c) ∙ ap (λ x. x +ℤ (b +ℤ c)) h ∙ shuffle (m *ℤ b) (m *ℤ c) b c ∙ sym (ap₂ ◌+ℤ◌ (suc_ℤ-*ℤ m b) (suc_ℤ-*ℤ m c)))
-    (λ m h. pred_ℤ-*ℤ m (b +ℤ c) ∙ ap₂ ◌+ℤ◌ h (neg_ℤ-+ℤ b c) ∙ shuffle (m *ℤ b) (m *ℤ c) (neg_ℤ b) (neg_ℤ c) ∙ sym (ap₂ ◌+ℤ◌ (pred_ℤ-*ℤ m b) (pred_ℤ-*ℤ m c)))
+    (λ m h. pred_ℤ-*ℤ m (b +ℤ c) ∙ ap₂ ◌+ℤ◌ h (neg_ℤ-+ℤ b c) ∙ shuffle (m *ℤ b) (m *ℤ c) (neg_ℤ b) (neg_ℤ c)
+    ∙ sym (ap₂ ◌+ℤ◌ (pred_ℤ-*ℤ m b) (pred_ℤ-*ℤ m c)))
     a
 
 +ℤ-*ℤ : (a b c : ℤ) → (a +ℤ b) *ℤ c ≡ a *ℤ c +ℤ b *ℤ c

@@ -1,6 +1,7 @@
 -- What callers use of the definitions: the cases by plain facts, and what becomes of the weights that a list holds.
 -- A field that is an array is a list whose length is known only where a function starts (`.good`), so the laws that need it ask for it.
-use Rattle.std.specs.Prelude.{◌≡◌, Bool, true, false, cond, ◌&&◌, List, [], ◌∷◌, ◌++◌, ℕ, suc, ◌+◌, ◌-◌, ◌≤◌, ◌<◌, ◌^◌, min, ℤ, pos, ◌+ℤ◌, take, get_or, replicate, leb, ltb}
+use Rattle.std.specs.Prelude.{◌≡◌, Bool, true, false, cond, ◌&&◌, List, [], ◌∷◌, ◌++◌, ℕ, suc, ◌+◌, ◌-◌, ◌≤◌, ◌<◌, ◌^◌, min}
+use Rattle.std.specs.Prelude.{ℤ, pos, ◌+ℤ◌, take, get_or, replicate, leb, ltb}
 use Rattle.std.proofs.Math.Path.{refl}
 use Rattle.std.proofs.Common.{◌∙◌, append-nil, add-one, arith, drop_of_length-le, length-append, drop-cons, take_all, take_at}
 use Rattle.std.proofs.Math.Bool.{and-false, and-eq-true_iff}

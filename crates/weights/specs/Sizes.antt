@@ -1,7 +1,8 @@
 -- The list's rule: the sizes of its weights add up to at most the largest weight times the capacity, so every weight in it is at
 -- most that, and sums fit their word. A job's list has it, since none of its weights is above the largest. A list that comes of it by taking a weight out, and by
 -- adding that weight to another, has it too: the sum of two weights is not larger than the two together.
-use Rattle.std.specs.Prelude.{◌≡◌, Bool, true, false, cond, List, [], ◌∷◌, ◌++◌, ℕ, zero, suc, ◌+◌, ◌*◌, ◌-◌, ◌≤◌, ◌<◌, ◌^◌, ℤ, pos, negsuc, ◌+ℤ◌, nat_abs, ltb, length, take, drop, get_or}
+use Rattle.std.specs.Prelude.{◌≡◌, Bool, true, false, cond, List, [], ◌∷◌, ◌++◌, ℕ, zero, suc, ◌+◌, ◌*◌, ◌-◌, ◌≤◌, ◌<◌, ◌^◌}
+use Rattle.std.specs.Prelude.{ℤ, pos, negsuc, ◌+ℤ◌, nat_abs, ltb, length, take, drop, get_or}
 use Rattle.std.proofs.Common.{sym, ◌∙◌, arith}
 use Rattle.std.specs.Int.Signed.{mag}
 use Rattle.algebra.specs.Natural.{naturals}
