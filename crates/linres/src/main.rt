@@ -3,7 +3,7 @@
 // this program looks at standard error, or starts it by the command ./linres.
 #![tactic(auto)]
 
-ghost use Rattle.std.specs.Prelude.{length};
+ghost use Rattle.std.specs.Prelude.{◌≤◌, length, IfOk};
 ghost use Rattle.linres_text.specs.Texts.{TextOf};
 ghost use Rattle.linres.specs.Passing.{Within};
 
@@ -94,12 +94,27 @@ fn write_whole(output: &mut Stdout, text: &[u8], answer: &[u8]) -> io::Result<()
     Ok(())
 }
 
+// Bytes enough for the system's words for any error.
+const LONGEST_WORDS: usize = 512;
+
+// The bytes of the error's text, at the front of room.
+fn told(error: Error, room: &mut [u8]) -> io::Result<usize>
+    ensures { IfOk result (λ n. n ≤ length room.new) }
+{
+    let most = room.len();
+    let mut rest = &mut room[..];
+    write!(rest, "{error}")?;
+    Ok(most.saturating_sub(rest.len()))
+}
+
 // One line on standard error: what could not be done, and the system's words for why.
 fn say(rt: &HostRuntime, what: &str, error: Error) -> io::Result<()> {
-    let told = format!(in rt.alloc(); "{error}")?;
-    match told.as_str().split_once(" (os error ") {
+    let mut room = [0u8; LONGEST_WORDS];
+    let n = told(error, &mut room)?;
+    let text = str::from_utf8(&room[..n]).unwrap_or("");
+    match text.split_once(" (os error ") {
         Some((words, _)) => eprintln!(rt; "linres: {what}: {words}"),
-        None => eprintln!(rt; "linres: {what}: {told}"),
+        None => eprintln!(rt; "linres: {what}: {text}"),
     }
 }
 
