@@ -20,10 +20,7 @@ pub fn lists(list: Weights) -> u32
     let first = list.places[0];
     let rest = list.without(0);
     let mut number = 1 + lists(rest);
-    let mut next = 0;
-    while next < rest.len {
-        let j = next;
-        next += 1;
+    for j in 0..rest.len {
         if rest.copies(j, j) == rest.copies(j, 0) {
             number += lists(rest.with_sum(j, first));
         }

@@ -2,6 +2,5 @@ pub mod Steps
 pub mod Writes
 pub mod ListSteps
 pub mod ListWrites
-pub mod Signs
 pub mod SignedSteps
 pub mod Smalls

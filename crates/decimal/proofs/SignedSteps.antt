@@ -1,68 +1,51 @@
 -- The reader of numbers with a sign takes the two cases of its scanner by the first byte: behind a minus sign a number that is not 0,
 -- else a number, and neither above the largest.
-use Prim.Native.Nat.{ℕ, ◌+◌, ◌≤◌, ◌<◌}
-use mathlib.Core.Path.{◌≡◌, sym, ◌∙◌}
-use mathlib.Core.List.{List}
-use native.Mathlib.Omega.{arith}
-use lib.IntN.{ℤ, pos, neg_ℤ}
-use lib.ListN.{length, get_or, drop, length-drop}
-use mir.Syntax.{w32}
-use mir.Val.{to_z, of_z}
-use borrow.Author.Tests.{lt-ltb, le-ltb, ne_eqb}
+use Rattle.std.proofs.Common.{◌≡◌, sym, ◌∙◌, refl, cond, ℕ, ◌+◌, ◌≤◌, ◌<◌, ◌⊎◌, inl, inr, List, [], ◌∷◌, length, get_or, drop, take, eqb, true, false, ltb}
+use Rattle.std.proofs.Common.{arith, lt-ltb, le-ltb, ne_eqb}
+use Rattle.std.specs.Prelude.{pos, neg_ℤ}
+use Rattle.std.specs.Cmp.Lexicographic.{pointwise}
 use Rattle.limits.specs.Limits.{largest_written}
-use Rattle.decimal.specs.declared.Cursor.{Cursor}
-use Rattle.decimal.specs.declared.Number.{Number}
-use Rattle.decimal.specs.declared.Number.TheVariants.{Bad, Value}
-use Rattle.decimal.specs.declared.Signed.TheVariants.{Of}
-use Rattle.decimal.specs.Scan.{bad, got, number, number_of, signed_number, signed_of}
-use Rattle.decimal.specs.Scans.{begins_within, byte_within}
+use Rattle.decimal.specs.Scan.{and_then, bad, got, number, signed_number}
+use Rattle.decimal.specs.Scans.{begins_within}
 use Rattle.decimal.specs.NumberLaws.{numbers}
-use Rattle.decimal.specs.SignedLaws.{signed_numbers}
-use Rattle.decimal.proofs.ListSteps.{rest, rest_is}
-use Rattle.decimal.proofs.Signs.{bits_are, neg_is, plus_is}
 
-module _ (t : List ℕ) (b : ℕ) (w : b ≡ get_or t 0 0) (p : b ≡ 45) where
-  pub sign_there : 1 ≤ length t
-  sign_there = byte_within t 0 45 (sym w ∙ p) (omega arith)
+-- the library's test for the minus sign
+sign_is : (t : List ℕ) → pointwise eqb (take 1 t) (45 ∷ []) ≡ eqb (get_or t 0 0) 45
+sign_is [] = refl
+sign_is (b ∷ t) = grind arith
 
-module _ (t : List ℕ) (b : ℕ) (w : b ≡ get_or t 0 0) (p : b ≡ 45) (r : Number) (e : number_of r ≡ number (rest t 1)) where
-  read : number (drop 1 t) ≡ number_of r
-  read = rw (← rest_is t 1) (sym e)
+pub number_within : (s : List ℕ) (v i : ℕ) → got v i ≡ number s → i ≤ length s
+number_within s v i h = begins_within (numbers.sound s v i (sym h)).0
 
-  pub minus_bad : r ≡ Bad → bad ≡ signed_number t
+-- ---- behind a minus sign
+module _ (t s : List ℕ) (e : pointwise eqb (take 1 t) (45 ∷ []) ≡ true) (f : s ≡ drop 1 t) where
+  minus : signed_number t ≡ and_then (number s) λ v i. cond (eqb v 0) bad (cond (ltb largest_written v) bad (got (neg_ℤ (pos v)) (i + 1)))
   unfolding signed_number
-  minus_bad f = rw (← w, p, read, f)
+  minus = rw (sym (sign_is t) ∙ e, ← f)
 
-  module _ (v : ℕ) (c : Cursor) (f : r ≡ Value v c) where
-    pub minus_zero : v ≡ 0 → bad ≡ signed_number t
-    unfolding signed_number
-    minus_zero z = rw (← w, p, read, f, z)
+  pub minus_bad : bad ≡ number s → bad ≡ signed_number t
+  minus_bad h = rw (minus, ← h)
 
-    pub minus_large : (v ≡ 0 → ⊥) → largest_written < v → bad ≡ signed_number t
-    unfolding signed_number
-    minus_large n z = rw (← w, p, read, f, ne_eqb _ _ n, lt-ltb _ _ z)
+  module _ (v i : ℕ) (h : got v i ≡ number s) where
+    pub minus_outside : (v ≡ 0) ⊎ (largest_written < v) → bad ≡ signed_number t
+    minus_outside (inl z) = rw (minus, ← h, z)
+    minus_outside (inr l) = rw (minus, ← h, ne_eqb v 0 (λ z. omega arith), lt-ltb _ _ l)
 
-    pub minus_good : (z : ℤ) → (v ≡ 0 → ⊥) → v ≤ largest_written → z ≡ neg_ℤ (pos v) → signed_of (Of (to_z w32 (of_z w32 z)) (record { at = c.at + 1 })) ≡ signed_number t
-    unfolding signed_number
-    minus_good z n l q = rw (← w, p, read, f, ne_eqb _ _ n, le-ltb _ _ l, q, neg_is v l)
+    pub minus_good : 0 < v → v ≤ largest_written → got (neg_ℤ (pos v)) (i + 1) ≡ signed_number t
+    minus_good p l = rw (minus, ← h, ne_eqb v 0 (λ z. omega arith), le-ltb _ _ l)
 
-    pub minus_within : c.at + 1 ≤ length t
-    minus_within = omega (arith, begins_within (numbers.sound (drop 1 t) v c.at (rw f at read)).0, length-drop 1 t, sign_there t b w p)
-
-module _ (t : List ℕ) (b : ℕ) (w : b ≡ get_or t 0 0) (p : b ≡ 45 → ⊥) (r : Number) (e : number_of r ≡ number t) where
-  pub plus_bad : r ≡ Bad → bad ≡ signed_number t
+-- ---- no minus sign
+module _ (t : List ℕ) (e : pointwise eqb (take 1 t) (45 ∷ []) ≡ false) where
+  plus : signed_number t ≡ and_then (number t) λ v i. cond (ltb largest_written v) bad (got (pos v) i)
   unfolding signed_number
-  plus_bad f = rw (← w, ne_eqb _ _ p, ← e, f)
+  plus = rw (sym (sign_is t) ∙ e)
 
-  module _ (v : ℕ) (c : Cursor) (f : r ≡ Value v c) where
+  pub plus_bad : bad ≡ number t → bad ≡ signed_number t
+  plus_bad h = rw (plus, ← h)
+
+  module _ (v i : ℕ) (h : got v i ≡ number t) where
     pub plus_large : largest_written < v → bad ≡ signed_number t
-    unfolding signed_number
-    plus_large z = rw (← w, ne_eqb _ _ p, ← e, f, lt-ltb _ _ z)
+    plus_large z = rw (plus, ← h, lt-ltb _ _ z)
 
-    pub plus_good : (z : ℤ) → v ≤ largest_written → z ≡ pos v → signed_of (Of (to_z w32 (of_z w32 z)) c) ≡ signed_number t
-    unfolding signed_number
-    plus_good z l q = rw (← w, ne_eqb _ _ p, ← e, f, le-ltb _ _ l, q, plus_is v l)
-
--- a number that was read is stored by its bits
-pub stored_is : {z : ℤ} {k : ℕ} (t : List ℕ) → signed_number t ≡ got z k → signed_number t ≡ got (to_z w32 (of_z w32 z)) k
-stored_is {z} {k} t e = rw (bits_are z (signed_numbers.sound t z k e).1) e
+    pub plus_good : v ≤ largest_written → got (pos v) i ≡ signed_number t
+    plus_good z = rw (plus, ← h, le-ltb _ _ z)

@@ -35,11 +35,6 @@ module _ (s t u l l₁ : List ℕ) (at p : ℕ) (r : at + length (s ++ (t ++ u))
   pub room_third : (l₂ : List ℕ) (q : ℕ) → Wrote t l₁ p l₂ q → length l₂ ≡ length l₁ → q + length u ≤ length l₂
   room_third l₂ q w₂ k₂ = room_then t u l₁ l₂ p q (room_then s (t ++ u) l l₁ at p r w k) w₂ k₂
 
--- where the third is one byte
-pub room_last : (s t l l₁ l₂ : List ℕ) (b at p q : ℕ) → at + length (s ++ (t ++ (b ∷ []))) ≤ length l → Wrote s l at l₁ p → length l₁ ≡ length l → Wrote t l₁ p l₂ q →
-    length l₂ ≡ length l₁ → q + 1 ≤ length l₂
-room_last s t l l₁ l₂ b at p q r w k = room_third s t (b ∷ []) l l₁ at p r w k l₂ q
-
 pub wrote_three : {s t u l l₁ l₂ l₃ : List ℕ} {at p q r : ℕ} → Wrote s l at l₁ p → Wrote t l₁ p l₂ q → Wrote u l₂ q l₃ r → Wrote (s ++ (t ++ u)) l at l₃ r
 wrote_three f g h = wrote_then f (wrote_then g h)
 

@@ -1,13 +1,8 @@
 -- What reading at the front of a text finds, byte by byte, and what the code's answers say of it. That this is the reading of what
 -- `Spelling` spells is in the laws.
-use Rattle.std.specs.Prelude.{ℕ, zero, suc, ◌+◌, ◌-◌, ◌*◌, ◌≤◌, ◌≡◌, cond, List, [], ◌∷◌, ◌++◌, ltb, eqb, ℤ, pos, neg_ℤ, length, get_or, take, drop}
+use Rattle.std.specs.Prelude.{ℕ, zero, suc, ◌+◌, ◌-◌, ◌*◌, ◌≤◌, ◌≡◌, cond, List, [], ◌∷◌, ◌++◌, ltb, eqb, ℤ, pos, neg_ℤ}
+use Rattle.std.specs.Prelude.{length, get_or, take, drop, Option, Some, None}
 use Rattle.limits.specs.Limits.{largest_written}
-use Rattle.decimal.specs.declared.Number.{Number}
-use Rattle.decimal.specs.declared.Number.TheVariants.{Value, Bad}
-use Rattle.decimal.specs.declared.Signed.{Signed}
-use Rattle.decimal.specs.declared.Signed.TheVariants as signeds
-use Rattle.decimal.specs.declared.Listed.{Listed}
-use Rattle.decimal.specs.declared.Listed.TheVariants as lists
 use Rattle.decimal.specs.Spelling.{largest_word}
 
 -- a value and how many bytes it took, or document 01's number of the refusal
@@ -18,6 +13,11 @@ pub data Got (A : Type 0) : Type 0 where
 -- row 1: "the text is not a record of the kind read"
 abbrev pub bad : {A : Type 0} → Got A
 bad = refused 1
+
+-- what the code's answer says: the value and the place behind it, or row 1
+abbrev pub got_of : {A : Type 0} → Option (A × ℕ) → Got A
+got_of (Some (v, i)) = got v i
+got_of None = bad
 
 abbrev pub and_then : {A B : Type 0} → Got A → (A → ℕ → Got B) → Got B
 and_then (got a i) f = f a i
@@ -41,22 +41,12 @@ abbrev pub number : List ℕ → Got ℕ
 number [] = bad
 number (b ∷ t) = cond (ltb 9 (digit_of b)) bad (more_digits t (digit_of b) 1)
 
--- what the code's answer says: the value and its place, or row 1
-abbrev pub number_of : Number → Got ℕ
-number_of (Value v c) = got v c.at
-number_of Bad = bad
-
 -- ---- a number from -999 to 999
 unfoldable pub signed_number : List ℕ → Got ℤ
 signed_number t =
     cond (eqb (get_or t 0 0) 45)
     (and_then (number (drop 1 t)) λ v i. cond (eqb v 0) bad (cond (ltb largest_written v) bad (got (neg_ℤ (pos v)) (i + 1))))
     (and_then (number t) λ v i. cond (ltb largest_written v) bad (got (pos v) i))
-
--- what the code's answer says: the number and its place, or row 1
-abbrev pub signed_of : Signed → Got ℤ
-signed_of (signeds.Of z c) = got z c.at
-signed_of signeds.None = bad
 
 -- ---- a list: with room for k items more, the text that is left, the items read, and the place
 module _ {A : Type 0} (item : List ℕ → Got A) where
@@ -71,15 +61,15 @@ module _ {A : Type 0} (item : List ℕ → Got A) where
   read_list most t = more_items most t [] 0
 
 -- what the code's answer says, with the numbers that it left at the front of out: these and their place, or row 1
-abbrev pub list_of : {A : Type 0} → Listed → List A → Got (List A)
-list_of (lists.Of n c) out = got (take n out) c.at
-list_of lists.None out = bad
+abbrev pub list_of : {A : Type 0} → Option (ℕ × ℕ) → List A → Got (List A)
+list_of (Some (n, i)) out = got (take n out) i
+list_of None out = bad
 
-abbrev pub count_of : Listed → ℕ
-count_of (lists.Of n c) = n
-count_of lists.None = 0
+abbrev pub count_of : Option (ℕ × ℕ) → ℕ
+count_of (Some (n, i)) = n
+count_of None = 0
 
 -- the answer and out say what was found, and the numbers are all in out
-pub record ListRead {A : Type 0} (g : Got (List A)) (r : Listed) (out : List A) : Type 0 where
+pub record ListRead {A : Type 0} (g : Got (List A)) (r : Option (ℕ × ℕ)) (out : List A) : Type 0 where
   pub found : list_of r out ≡ g
   pub fits : count_of r ≤ length out

@@ -1,5 +1,5 @@
 -- What a writer leaves, and the leaf questions that writers ask.
-use Rattle.std.specs.Prelude.{ℕ, ◌+◌, ◌≡◌, Bool, true, false, cond, List, [], ◌∷◌, eqb, leb, ℤ, pos, negsuc, nat_abs, length}
+use Rattle.std.specs.Prelude.{ℕ, ◌+◌, ◌≡◌, Bool, true, false, cond, List, [], ◌∷◌, eqb, leb, ℤ, nat_abs, length}
 use Rattle.std.proofs.lemmas.List.Edits.{sets}
 use Rattle.limits.specs.Limits.{largest_written}
 
@@ -11,10 +11,6 @@ pub record Wrote (s out : List ℕ) (at : ℕ) (out' : List ℕ) (behind : ℕ) 
 -- behind the first i of n items: a line feed behind the last, else a comma
 unfoldable pub separator_of : ℕ → ℕ → ℕ
 separator_of i n = cond (eqb i n) 10 44
-
-abbrev pub negative : ℤ → Bool
-negative (pos n) = false
-negative (negsuc n) = true
 
 abbrev pub all_small : List ℤ → Bool
 all_small [] = true

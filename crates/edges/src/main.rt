@@ -3,254 +3,242 @@
 #![tactic(auto)]
 
 mod texts;
+mod words;
 
-use resolvents::Outcome;
+use checks::Refusal;
+use resolvents::Summary;
+use std::io;
 use weights::Weights;
+use words::{Coefficients, Words};
 
-fn say(text: &[u8]) {
-    io::write_all(1, text);
-}
+// A job by its name: p, f, how many weights there are, and the places that hold them.
+type Job<'a> = (&'a str, u32, &'a [u32], usize, [i32; limits::CAPACITY]);
 
-fn number(n: u32) {
-    io::print_decimal(1, n as u64);
-}
+// Weights by their name, the same.
+type Listed<'a> = (&'a str, usize, [i32; limits::CAPACITY]);
 
-// The first n words, as far as there are so many, with commas between them.
-fn words(xs: &[u32], n: usize) {
-    let mut i: usize = 0;
-    while i < n {
-        if i >= xs.len() {
-            return;
-        }
-        if i > 0 {
-            say(b",");
-        }
-        number(xs[i]);
-        i += 1;
-    }
-}
-
-// The n coefficients; of many the first eight and the last.
-fn coefficients(out: &[u32], n: usize) {
-    if n == 0 {
-        return;
-    }
-    say(b", ");
-    if n <= 9 {
-        words(out, n);
-        return;
-    }
-    words(out, 8);
-    say(b",..,");
-    if n <= out.len() {
-        number(out[n - 1]);
-    }
-}
-
-fn told(name: &[u8], r: Outcome, out: &[u32]) {
-    say(name);
-    say(b": code ");
-    number(r.code);
-    say(b", N ");
-    io::print_decimal(1, r.count as u64);
-    if r.simple {
-        say(b", simple yes");
-    } else {
-        say(b", simple no");
-    }
-    say(b", lists ");
-    number(r.lists);
-    coefficients(out, r.count);
-    say(b"\n");
+fn told(
+    rt: &impl Print,
+    name: &str,
+    answer: Result<Summary, Refusal>,
+    out: &[u32],
+) -> io::Result<()> {
+    let code = checks::code(&answer);
+    let Summary {
+        count,
+        simple,
+        lists,
+    } = answer.unwrap_or_default();
+    let mark = if simple { "yes" } else { "no" };
+    let coefficients = Coefficients(out.get(..count).unwrap_or(&[]));
+    println!(rt; "{name}: code {code}, N {count}, simple {mark}, lists {lists}{coefficients}")
 }
 
 // A call with as much room as any call needs.
-fn job(name: &[u8], p: u32, f: &[u32], len: usize, places: [i32; limits::CAPACITY]) {
-    let mut out = [7u32; limits::MOST_PLACEMENTS];
-    let mut work = [7u32; limits::LARGEST_ROOM];
-    let r = resolvents::resolvent(p, f, Weights { places, len }, &mut out, &mut work);
-    told(name, r, &out);
+fn job(rt: &impl Print, name: &str, p: u32, f: &[u32], list: Weights) -> io::Result<()> {
+    let mut out = [7; limits::MOST_PLACEMENTS];
+    let mut work = [7; limits::LARGEST_ROOM];
+    let answer = resolvents::resolvent(p, f, list, &mut out, &mut work);
+    told(rt, name, answer, &out)
+}
+
+fn worked(rt: &impl Print, jobs: &[Job]) -> io::Result<()> {
+    for &(name, p, f, len, places) in jobs {
+        job(rt, name, p, f, Weights { places, len })?;
+    }
+    Ok(())
+}
+
+// What jobs cost, told without working them: the same numbers, or row 6 or 8.
+fn costs(rt: &impl Print, jobs: &[Listed]) -> io::Result<()> {
+    for &(name, len, places) in jobs {
+        let lists = resolvents::lists(Weights { places, len });
+        let code = checks::code(&lists);
+        println!(rt; "{name}: code {code}, lists {}", lists.unwrap_or_default())?;
+    }
+    Ok(())
 }
 
 // Case C's f with two weights and the room that is lent, and what is left there.
-fn lent(name: &[u8], places: [i32; limits::CAPACITY], out: &mut [u32], work: &mut [u32]) {
-    let f = [254u32, 2];
-    let r = resolvents::resolvent(257, &f, Weights { places, len: 2 }, out, work);
-    told(name, r, out);
-    say(b"  output ");
-    words(out, out.len());
-    say(b"\n  work ");
-    words(work, work.len());
-    say(b"\n");
+fn lent(
+    rt: &impl Print,
+    name: &str,
+    weights: &[i32],
+    out: &mut [u32],
+    work: &mut [u32],
+) -> io::Result<()> {
+    let answer = resolvents::resolvent_for(257, &[254, 2], weights, out, work);
+    told(rt, name, answer, out)?;
+    println!(rt; "  output {}\n  work {}", Words(out), Words(work))
 }
 
-fn cases() {
-    job(b"A", 257, &[254], 1, [5, 0, 0, 0, 0, 0]);
-    job(b"B", 257, &[254, 2], 2, [1, 1, 0, 0, 0, 0]);
-    job(b"C", 257, &[254, 2], 2, [1, 2, 0, 0, 0, 0]);
-    job(b"D", 257, &[254, 2], 2, [1, -1, 0, 0, 0, 0]);
-    job(b"E", 257, &[255, 1], 2, [1, -1, 0, 0, 0, 0]);
-    job(b"F", 257, &[0, 254], 2, [1, -1, 0, 0, 0, 0]);
-}
+const QUARTIC: [u32; 4] = [0, 0, 0, 256];
 
-fn more_cases() {
-    job(b"G", 257, &[0, 0, 256], 2, [1, 1, 0, 0, 0, 0]);
-    job(b"H", 257, &[251, 11, 251], 2, [1, 1, 0, 0, 0, 0]);
-    job(b"I", 257, &[251, 11, 251], 3, [1, 1, 1, 0, 0, 0]);
-    job(b"J", 257, &[251, 11, 251], 2, [2, 1, 0, 0, 0, 0]);
-    job(b"K", 257, &[0, 0, 0, 256], 2, [1, 1, 0, 0, 0, 0]);
-    job(b"L", 257, &[0, 0, 0, 1], 2, [1, 1, 0, 0, 0, 0]);
-}
+const SIX: [u32; 6] = [1, 2, 3, 4, 5, 6];
+
+const EIGHT: [u32; 8] = [1, 2, 3, 4, 5, 6, 7, 8];
+
+const TEN: [u32; 10] = [1, 2, 3, 4, 5, 6, 7, 8, 9, 10];
+
+const ELEVEN: [u32; 11] = [1, 2, 3, 4, 5, 6, 7, 8, 9, 10, 11];
+
+const TWELVE: [u32; 12] = [1, 2, 3, 4, 5, 6, 7, 8, 9, 10, 11, 12];
+
+const PAIR: [i32; limits::CAPACITY] = [1, 1, 0, 0, 0, 0];
+
+const ONE_TWO_THREE: [i32; limits::CAPACITY] = [1, 2, 3, 0, 0, 0];
+
+const CASES: [Job; 12] = [
+    ("A", 257, &[254], 1, [5, 0, 0, 0, 0, 0]),
+    ("B", 257, &[254, 2], 2, [1, 1, 0, 0, 0, 0]),
+    ("C", 257, &[254, 2], 2, [1, 2, 0, 0, 0, 0]),
+    ("D", 257, &[254, 2], 2, [1, -1, 0, 0, 0, 0]),
+    ("E", 257, &[255, 1], 2, [1, -1, 0, 0, 0, 0]),
+    ("F", 257, &[0, 254], 2, [1, -1, 0, 0, 0, 0]),
+    ("G", 257, &[0, 0, 256], 2, [1, 1, 0, 0, 0, 0]),
+    ("H", 257, &[251, 11, 251], 2, [1, 1, 0, 0, 0, 0]),
+    ("I", 257, &[251, 11, 251], 3, [1, 1, 1, 0, 0, 0]),
+    ("J", 257, &[251, 11, 251], 2, [2, 1, 0, 0, 0, 0]),
+    ("K", 257, &[0, 0, 0, 256], 2, [1, 1, 0, 0, 0, 0]),
+    ("L", 257, &[0, 0, 0, 1], 2, [1, 1, 0, 0, 0, 0]),
+];
 
 // x^4 - 1 with the weights 1,1, at moduli around the least and the largest.
-fn moduli() {
-    let f = [0u32, 0, 0, 256];
-    let pair = [1i32, 1, 0, 0, 0, 0];
-    job(b"251", 251, &f, 2, pair);
-    job(b"257", 257, &f, 2, pair);
-    job(b"259", 259, &f, 2, pair);
-    job(b"2147483647", 2147483647, &f, 2, pair);
-    job(b"2147483648", 2147483648, &f, 2, pair);
-}
+const MODULI: [Job; 5] = [
+    ("251", 251, &QUARTIC, 2, PAIR),
+    ("257", 257, &QUARTIC, 2, PAIR),
+    ("259", 259, &QUARTIC, 2, PAIR),
+    ("2147483647", 2147483647, &QUARTIC, 2, PAIR),
+    ("2147483648", 2147483648, &QUARTIC, 2, PAIR),
+];
 
 // Numbers of placements around 1,024 and around p.
-fn numbers() {
-    let eight = [1u32, 2, 3, 4, 5, 6, 7, 8];
-    let ten = [1u32, 2, 3, 4, 5, 6, 7, 8, 9, 10];
-    let eleven = [1u32, 2, 3, 4, 5, 6, 7, 8, 9, 10, 11];
-    let twelve = [1u32, 2, 3, 4, 5, 6, 7, 8, 9, 10, 11, 12];
-    let ones = [1i32; 6];
-    let one_two_three = [1i32, 2, 3, 0, 0, 0];
-    let wide = [16i32, -16, 1, 1, 0, 0];
-    job(b"924 at 257", 257, &twelve, 6, ones);
-    job(b"924 at 1009", 1009, &twelve, 6, ones);
-    job(b"990 at 1009", 1009, &eleven, 3, one_two_three);
-    job(b"1320 at 1009", 1009, &twelve, 3, one_two_three);
-    job(b"1320 at 257", 257, &twelve, 3, one_two_three);
-    job(b"252 at 257", 257, &ten, 5, ones);
-    job(b"336 at 257", 257, &eight, 3, one_two_three);
-    job(b"840 at 2147483647", 2147483647, &eight, 4, wide);
-}
+const NUMBERS: [Job; 8] = [
+    ("924 at 257", 257, &TWELVE, 6, [1; 6]),
+    ("924 at 1009", 1009, &TWELVE, 6, [1; 6]),
+    ("990 at 1009", 1009, &ELEVEN, 3, ONE_TWO_THREE),
+    ("1320 at 1009", 1009, &TWELVE, 3, ONE_TWO_THREE),
+    ("1320 at 257", 257, &TWELVE, 3, ONE_TWO_THREE),
+    ("252 at 257", 257, &TEN, 5, [1; 6]),
+    ("336 at 257", 257, &EIGHT, 3, ONE_TWO_THREE),
+    (
+        "840 at 2147483647",
+        2147483647,
+        &EIGHT,
+        4,
+        [16, -16, 1, 1, 0, 0],
+    ),
+];
 
 // Degrees and counts of weights at their bounds.
-fn counts() {
-    let none = [0u32; 0];
-    let two = [254u32, 2];
-    let six = [1u32, 2, 3, 4, 5, 6];
-    let seven = [1u32; 7];
-    let thirteen = [1u32; 13];
-    let ones = [1i32; 6];
-    job(b"n = 0", 257, &none, 2, ones);
-    job(b"n = 13", 257, &thirteen, 2, ones);
-    job(b"r = 0", 257, &two, 0, ones);
-    job(b"r = 7", 257, &seven, 7, ones);
-    job(b"r = 3 above n = 2", 257, &two, 3, ones);
-    job(b"r = n = 6", 257, &six, 6, ones);
-}
+const COUNTS: [Job; 6] = [
+    ("n = 0", 257, &[0; 0], 2, [1; 6]),
+    ("n = 13", 257, &[1; 13], 2, [1; 6]),
+    ("r = 0", 257, &[254, 2], 0, [1; 6]),
+    ("r = 7", 257, &[1; 7], 7, [1; 6]),
+    ("r = 3 above n = 2", 257, &[254, 2], 3, [1; 6]),
+    ("r = n = 6", 257, &SIX, 6, [1; 6]),
+];
 
 // Weights and coefficients at theirs.
-fn sizes() {
-    let two = [254u32, 2];
-    let ones = [1i32; 6];
-    job(b"weight 0", 257, &two, 1, [0; 6]);
-    job(b"weight 16", 257, &two, 1, [16; 6]);
-    job(b"weight 17", 257, &two, 1, [17; 6]);
-    job(b"weight -16", 257, &two, 1, [-16; 6]);
-    job(b"weight -17", 257, &two, 1, [-17; 6]);
-    job(b"coefficient 256", 257, &[256, 2], 2, ones);
-    job(b"coefficient 257", 257, &[254, 257], 2, ones);
-}
+const SIZES: [Job; 7] = [
+    ("weight 0", 257, &[254, 2], 1, [0; 6]),
+    ("weight 16", 257, &[254, 2], 1, [16; 6]),
+    ("weight 17", 257, &[254, 2], 1, [17; 6]),
+    ("weight -16", 257, &[254, 2], 1, [-16; 6]),
+    ("weight -17", 257, &[254, 2], 1, [-17; 6]),
+    ("coefficient 256", 257, &[256, 2], 2, [1; 6]),
+    ("coefficient 257", 257, &[254, 257], 2, [1; 6]),
+];
 
 // Calls that break several rules: the first in document 01's order tells.
-fn orders() {
-    let two = [254u32, 2];
-    let many_large = [4294967295u32; 13];
-    let twelve = [0u32; 12];
-    let zeros = [0i32; 6];
-    let with_zero = [1i32, 2, 0, 0, 0, 0];
-    job(b"251, weight 0", 251, &two, 1, zeros);
-    job(b"n = 13, large coefficients", 257, &many_large, 0, zeros);
-    job(b"coefficient 257, no weights", 257, &[257], 0, zeros);
-    job(b"r = 7 above n = 2", 257, &two, 7, zeros);
-    job(b"r = 3 above n = 2, weights 0", 257, &two, 3, zeros);
-    job(b"1320 placements, a weight 0", 257, &twelve, 3, with_zero);
-}
+const ORDERS: [Job; 6] = [
+    ("251, weight 0", 251, &[254, 2], 1, [0; 6]),
+    (
+        "n = 13, large coefficients",
+        257,
+        &[4294967295; 13],
+        0,
+        [0; 6],
+    ),
+    ("coefficient 257, no weights", 257, &[257], 0, [0; 6]),
+    ("r = 7 above n = 2", 257, &[254, 2], 7, [0; 6]),
+    ("r = 3 above n = 2, weights 0", 257, &[254, 2], 3, [0; 6]),
+    (
+        "1320 placements, a weight 0",
+        257,
+        &[0; 12],
+        3,
+        [1, 2, 0, 0, 0, 0],
+    ),
+];
 
 // Places after the r-th count for nothing.
-fn places() {
-    let two = [254u32, 2];
-    let others = [1i32, 2, 99, 0, -7, 2147483647];
-    job(b"zeros behind", 257, &two, 2, [1, 2, 0, 0, 0, 0]);
-    job(b"others behind", 257, &two, 2, others);
-}
+const PLACES: [Job; 2] = [
+    ("zeros behind", 257, &[254, 2], 2, [1, 2, 0, 0, 0, 0]),
+    (
+        "others behind",
+        257,
+        &[254, 2],
+        2,
+        [1, 2, 99, 0, -7, 2147483647],
+    ),
+];
 
 // Lists worked: the number goes by the job's order, and equal collisions are merged.
-fn lists() {
-    let six = [1u32, 2, 3, 4, 5, 6];
-    job(b"1,1,1,1,2,-1", 1009, &six, 6, [1, 1, 1, 1, 2, -1]);
-    job(b"-1,2,1,1,1,1", 1009, &six, 6, [-1, 2, 1, 1, 1, 1]);
-    job(b"no sums equal", 1009, &six, 6, [1, 2, 4, 8, 16, -5]);
-}
+const LISTS: [Job; 3] = [
+    ("1,1,1,1,2,-1", 1009, &SIX, 6, [1, 1, 1, 1, 2, -1]),
+    ("-1,2,1,1,1,1", 1009, &SIX, 6, [-1, 2, 1, 1, 1, 1]),
+    ("no sums equal", 1009, &SIX, 6, [1, 2, 4, 8, 16, -5]),
+];
 
-fn cost(name: &[u8], r: usize, places: [i32; limits::CAPACITY]) {
-    let told = resolvents::lists(Weights { places, len: r });
-    say(name);
-    say(b": code ");
-    number(told.code);
-    say(b", lists ");
-    number(told.lists);
-    say(b"\n");
-}
-
-// What a job costs, told without working it: the same numbers, or row 6 or 8.
-fn costs() {
-    cost(b"1,1,1,1,2,-1", 6, [1, 1, 1, 1, 2, -1]);
-    cost(b"-1,2,1,1,1,1", 6, [-1, 2, 1, 1, 1, 1]);
-    cost(b"no sums equal", 6, [1, 2, 4, 8, 16, -5]);
-    cost(b"one weight", 1, [5, 0, 0, 0, 0, 0]);
-    cost(b"none", 0, [1, 1, 1, 1, 1, 1]);
-    cost(b"seven, of which one is 0", 7, [0, 1, 1, 1, 1, 1]);
-    cost(b"weight 0", 2, [1, 0, 1, 1, 1, 1]);
-    cost(b"weight 17", 2, [17, 1, 1, 1, 1, 1]);
-}
+const COSTS: [Listed; 8] = [
+    ("1,1,1,1,2,-1", 6, [1, 1, 1, 1, 2, -1]),
+    ("-1,2,1,1,1,1", 6, [-1, 2, 1, 1, 1, 1]),
+    ("no sums equal", 6, [1, 2, 4, 8, 16, -5]),
+    ("one weight", 1, [5, 0, 0, 0, 0, 0]),
+    ("none", 0, [1, 1, 1, 1, 1, 1]),
+    ("seven, of which one is 0", 7, [0, 1, 1, 1, 1, 1]),
+    ("weight 0", 2, [1, 0, 1, 1, 1, 1]),
+    ("weight 17", 2, [17, 1, 1, 1, 1, 1]),
+];
 
 // Output and work room: more than enough, one word fewer of each and of both, and exactly enough.
-fn room() {
-    let pair = [1i32, 1, 0, 0, 0, 0];
-    let apart = [1i32, 2, 0, 0, 0, 0];
-    let mut out = [7u32, 8, 9, 10];
-    let mut work = [7u32; 27];
-    let mut two = [7u32; 2];
-    let mut enough = [7u32; 36];
-    let mut one = [7u32; 1];
-    let mut fewer = [7u32; 35];
-    lent(b"words to spare", pair, &mut out, &mut work);
-    lent(b"one output word fewer", apart, &mut one, &mut enough);
-    lent(b"one work word fewer", apart, &mut two, &mut fewer);
-    lent(b"one fewer of each", apart, &mut one, &mut fewer);
-    lent(b"exactly enough", apart, &mut two, &mut enough);
+fn room(rt: &impl Print) -> io::Result<()> {
+    let pair = [1, 1];
+    let apart = [1, 2];
+    let mut out = [7, 8, 9, 10];
+    let mut work = [7; 27];
+    let mut two = [7; 2];
+    let mut enough = [7; 36];
+    let mut one = [7; 1];
+    let mut fewer = [7; 35];
+    lent(rt, "words to spare", &pair, &mut out, &mut work)?;
+    lent(rt, "one output word fewer", &apart, &mut one, &mut enough)?;
+    lent(rt, "one work word fewer", &apart, &mut two, &mut fewer)?;
+    lent(rt, "one fewer of each", &apart, &mut one, &mut fewer)?;
+    lent(rt, "exactly enough", &apart, &mut two, &mut enough)
 }
 
-fn main() {
-    say(b"-- cases\n");
-    cases();
-    more_cases();
-    say(b"-- moduli\n");
-    moduli();
-    say(b"-- numbers of placements\n");
-    numbers();
-    say(b"-- bounds\n");
-    counts();
-    sizes();
-    say(b"-- the first rule broken\n");
-    orders();
-    say(b"-- places after the r-th\n");
-    places();
-    say(b"-- lists worked\n");
-    lists();
-    say(b"-- lists told without working them\n");
-    costs();
-    say(b"-- room\n");
-    room();
-    texts::all();
+fn main(rt: HostRuntime) -> io::Result<()> {
+    println!(rt; "-- cases")?;
+    worked(&rt, &CASES)?;
+    println!(rt; "-- moduli")?;
+    worked(&rt, &MODULI)?;
+    println!(rt; "-- numbers of placements")?;
+    worked(&rt, &NUMBERS)?;
+    println!(rt; "-- bounds")?;
+    worked(&rt, &COUNTS)?;
+    worked(&rt, &SIZES)?;
+    println!(rt; "-- the first rule broken")?;
+    worked(&rt, &ORDERS)?;
+    println!(rt; "-- places after the r-th")?;
+    worked(&rt, &PLACES)?;
+    println!(rt; "-- lists worked")?;
+    worked(&rt, &LISTS)?;
+    println!(rt; "-- lists told without working them")?;
+    costs(&rt, &COSTS)?;
+    println!(rt; "-- room")?;
+    room(&rt)?;
+    texts::all(&rt)
 }

@@ -6,7 +6,7 @@ use mathlib.Core.List.{List}
 use native.Mathlib.Omega.{arith}
 use lib.Dec.{eqb}
 use mir.Val.{bool_byte}
-use Rattle.records.specs.declared.Written.{Written}
+use Rattle.records.specs.Told.{Written}
 use Rattle.records.specs.Records.{answer}
 use Rattle.records.specs.Put.{not_written}
 use Rattle.records.specs.Promises.{WritesAnswer}

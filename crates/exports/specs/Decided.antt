@@ -1,11 +1,11 @@
 -- Each promise determines everything at exit: two ends of the same call that it allows are equal.
 use Rattle.std.specs.Prelude.{◌≡◌, refl, true, false, List, ℕ, zero, suc, length, ℤ}
 use Rattle.std.proofs.Common.{sym, ap, ◌∙◌, arith}
-use Rattle.records.specs.declared.AnswerRead.{AnswerRead}
-use Rattle.records.specs.declared.JobRead.{JobRead}
-use Rattle.records.specs.declared.Written.{Written}
+use Rattle.records.specs.Told.{AnswerRead}
+use Rattle.records.specs.Told.{JobRead}
+use Rattle.records.specs.Told.{Written}
 use Rattle.records.proofs.Theorems.{read_answer_decides, read_job_decides, write_answer_decides, write_job_decides}
-use Rattle.resolvents.specs.declared.Cost.{Cost}
+use Rattle.resolvents.specs.Results.{Cost}
 use Rattle.resolvents.specs.Promise.{Exit, left}
 use Rattle.resolvents.proofs.Costs.{told_decides}
 use Rattle.resolvents.proofs.Decided.{promise_decides}

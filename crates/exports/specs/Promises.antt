@@ -1,14 +1,14 @@
 -- What the exported functions promise: the promises of the functions that they call, with the parts of a result handed back one by
 -- one.
 use Rattle.std.specs.Prelude.{◌≡◌, Bool, cond, List, ℕ, ◌<◌, length, ℤ}
-use Rattle.records.specs.declared.AnswerRead.{AnswerRead}
-use Rattle.records.specs.declared.JobRead.{JobRead}
-use Rattle.records.specs.declared.Written.{Written}
+use Rattle.records.specs.Told.{AnswerRead}
+use Rattle.records.specs.Told.{JobRead}
+use Rattle.records.specs.Told.{Written}
 use Rattle.records.specs.Records.{answer, job}
 use Rattle.records.specs.Put.{not_written}
 use Rattle.records.specs.Promises.{ReadsAnswer, ReadsJob, WritesAnswer, WritesJob}
-use Rattle.resolvents.specs.declared.Outcome.{Outcome}
-use Rattle.resolvents.specs.declared.Cost.{Cost}
+use Rattle.resolvents.specs.Results.{Outcome}
+use Rattle.resolvents.specs.Results.{Cost}
 use Rattle.resolvents.specs.Promise.{Promise, left}
 use Rattle.resolvents.specs.Cost.{Told}
 use Rattle.resolvents.specs.Slices.{asked}

@@ -4,14 +4,15 @@
 ghost use Rattle.exports.specs.Promises.{TextPromise, NumbersPromise, CostPromise};
 ghost use Rattle.exports.specs.Promises.{JobReaderPromise, AnswerReaderPromise, JobWriterPromise, AnswerWriterPromise};
 
+use checks::Refusal;
+
 // The text that answers a text, at the front of out: its length, or 0 where out is too short for it (an answer has at least 11
 // bytes). Nothing is touched then.
 #[unsafe(no_mangle)]
 pub extern "C" fn linres_answer_text(text: &[u8], out: &mut [u8]) -> usize
     ensures { TextPromise text.now out.old result out.new }
 {
-    let written = linres_text::answer_text(text, out);
-    written.len
+    linres_text::answer_text(text, out).unwrap_or(0)
 }
 
 // The resolvent of f for the weights, modulo p: the number of document 01's table, or 0. N goes to count, the mark, 1 for yes and
@@ -31,10 +32,12 @@ pub extern "C" fn linres_resolvent(
         count.new simple.new lists.new out.new work.new }
 {
     let outcome = resolvents::resolvent_for(p, f, weights, out, work);
-    *count = outcome.count;
-    *simple = outcome.simple as u32;
-    *lists = outcome.lists;
-    outcome.code
+    let code = checks::code(&outcome);
+    let summary = outcome.unwrap_or_default();
+    *count = summary.count;
+    *simple = u32::from(summary.simple);
+    *lists = summary.lists;
+    code
 }
 
 // What a job with these weights costs, told before it is worked: 0, and the number of weight lists goes to lists; or the number of
@@ -44,8 +47,9 @@ pub extern "C" fn linres_lists(weights: &[i32], lists: &mut u32) -> u32
     ensures { CostPromise weights.now result lists.new }
 {
     let cost = resolvents::lists_for(weights);
-    *lists = cost.lists;
-    cost.code
+    let code = checks::code(&cost);
+    *lists = cost.unwrap_or(0);
+    code
 }
 
 // Reads the text as a job into the fronts of coeffs and weights, which have 64 places or more: 0, and the modulus and the two counts
@@ -62,11 +66,13 @@ pub extern "C" fn linres_read_job(
     ensures { JobReaderPromise text.now coeffs.old weights.old result
         modulus.new degree.new count.new coeffs.new weights.new }
 {
-    let job = records::read_job(text, coeffs, weights);
+    let told = records::read_job(text, coeffs, weights);
+    let code = checks::code(&told);
+    let job = told.unwrap_or_default();
     *modulus = job.modulus;
     *degree = job.degree;
     *count = job.weights;
-    job.code
+    code
 }
 
 // The same for an answer, whose coefficients take 1,024 places or more; its mark, 1 for yes and 0 for no, goes to simple.
@@ -81,11 +87,13 @@ pub extern "C" fn linres_read_answer(
     ensures { AnswerReaderPromise text.now coeffs.old result
         modulus.new degree.new simple.new coeffs.new }
 {
-    let answer = records::read_answer(text, coeffs);
+    let told = records::read_answer(text, coeffs);
+    let code = checks::code(&told);
+    let answer = told.unwrap_or_default();
     *modulus = answer.modulus;
     *degree = answer.degree;
-    *simple = answer.simple as u32;
-    answer.code
+    *simple = u32::from(answer.simple);
+    code
 }
 
 // Writes the job at the front of out: 0, and its length goes to len. Or 15 or 14, and 0 goes there.
@@ -101,8 +109,9 @@ pub extern "C" fn linres_write_job(
         len.new out.new }
 {
     let job = records::write_job(modulus, coeffs, weights, out);
-    *len = job.len;
-    job.code
+    let code = checks::code(&job);
+    *len = job.unwrap_or(0);
+    code
 }
 
 // The same for an answer, whose mark is 1 for yes and 0 for no; no answer holds another word.
@@ -118,9 +127,10 @@ pub extern "C" fn linres_write_answer(
 {
     if 1 < simple {
         *len = 0;
-        return 15;
+        return u32::from(Refusal::NotHeld);
     }
     let answer = records::write_answer(modulus, simple == 1, coeffs, out);
-    *len = answer.len;
-    answer.code
+    let code = checks::code(&answer);
+    *len = answer.unwrap_or(0);
+    code
 }

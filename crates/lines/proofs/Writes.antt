@@ -1,21 +1,13 @@
--- Bytes are written one by one: those left to write, over those written, are the whole. The first two lines are as long as their numbers
--- and what stands around these.
-use Prim.Native.Nat.{ℕ, ◌+◌, ◌≤◌, ◌<◌}
-use mathlib.Core.Path.{◌≡◌, sym, ◌∙◌, ap}
-use mathlib.Core.List.{List, [], ◌∷◌}
-use native.Mathlib.Omega.{arith}
-use native.Mathlib.Numerals.{add-one}
-use lib.ListN.{length, get_or, drop, set, length-append, drop_of_length-le}
-use lib.Seq.{sets, drop-cons}
+-- Bytes copied over a part of the text are the bytes written there. The first two lines are as long as their numbers and what stands around
+-- these.
+use Rattle.std.proofs.Common.{◌≡◌, ℕ, ◌+◌, ◌≤◌, List, [], ◌∷◌, length, append_assoc, arith, length-append, drop-drop}
+use Rattle.std.proofs.lemmas.List.Edits.{sets, sets-eq}
+use borrow.Rule.Slice.PartMut.{put_mid}
 use Rattle.decimal.specs.Spelling.{decimal}
 use Rattle.lines.specs.Lines.{bytes, head_text, number_line}
 
-module _ (bytes out₀ : List ℕ) (at i p : ℕ) (out : List ℕ) (so : sets out p (drop i bytes) ≡ sets out₀ at bytes) where
-  pub byte_wrote : i < length bytes → sets (set out p (get_or bytes i 0)) (p + 1) (drop (i + 1) bytes) ≡ sets out₀ at bytes
-  byte_wrote h = rw (add-one p, add-one i) (ap (sets out p) (sym (drop-cons bytes i 0 h)) ∙ so)
-
-  pub bytes_end : length bytes ≤ i → out ≡ sets out₀ at bytes
-  bytes_end h = ap (sets out p) (sym (drop_of_length-le bytes h)) ∙ so
+pub copied : (out s part : List ℕ) (at k : ℕ) → at + length s ≤ length out → k ≡ length s → part ≡ s → put_mid at k out part ≡ sets out at s
+copied out s part at k r e f = rw (e, f, sets-eq s out at r, append_assoc, drop-drop)
 
 -- ---- the first two lines
 pub head_length : (m d : ℕ) → length (head_text m d) ≡ 17 + length (decimal m) + length (decimal d)

@@ -1,11 +1,8 @@
 -- What reading a line, and then another, finds at the front of a text.
-use Rattle.std.specs.Prelude.{ℕ, ◌+◌, Bool, true, false, cond, List, [], ◌∷◌, eqb, length, get_or, drop}
+use Rattle.std.specs.Prelude.{ℕ, ◌+◌, Bool, true, false, cond, List, [], ◌∷◌, eqb, length, get_or, drop, Option, Some, None}
 use Rattle.decimal.specs.Scan.{Got, and_then, bad, got, number}
 use Rattle.lines.specs.declared.Head.{Head}
-use Rattle.lines.specs.declared.Mark.{Mark}
 use Rattle.lines.specs.Lines.{bytes, mark_text}
-use Rattle.lines.specs.declared.Head.TheVariants as heads
-use Rattle.lines.specs.declared.Mark.TheVariants as marks
 
 abbrev pub starts : List ℕ → List ℕ → Bool
 starts [] t = true
@@ -36,11 +33,7 @@ mark t =
     cond (starts (mark_text true) t) (got true (length (mark_text true)))
     (cond (starts (mark_text false) t) (got false (length (mark_text false))) bad)
 
--- what the code's answers say: the values and the place behind them, or row 1
-abbrev pub head_of : Head → Got (ℕ × ℕ)
-head_of (heads.Of m d c) = got (m, d) c.at
-head_of heads.None = bad
-
-abbrev pub mark_of : Mark → Got Bool
-mark_of (marks.Of b c) = got b c.at
-mark_of marks.None = bad
+-- what the code's answer says: the values and the place behind them, or row 1
+abbrev pub head_of : Option Head → Got (ℕ × ℕ)
+head_of (Some h) = got (h.modulus, h.degree) h.end
+head_of None = bad

@@ -3,107 +3,60 @@
 
 ghost use Rattle.std.specs.Prelude.{◌≡◌, ◌+◌, ◌≤◌, length};
 ghost use Rattle.limits.specs.Limits.{most_placements};
-ghost use Rattle.decimal.specs.Spelling.{decimal, signed, Small, Each};
-ghost use Rattle.decimal.specs.Scan.{number_of, number, signed_number, read_list, ListRead};
+ghost use Rattle.decimal.specs.Spelling.{Each};
+ghost use Rattle.decimal.specs.Scan.{got_of, number, read_list, ListRead};
 ghost use Rattle.decimal.specs.Written.{Wrote};
 ghost use Rattle.lines.specs.Lines.{number_line, list_line, refused_line, head_text, mark_text};
-ghost use Rattle.lines.specs.Scan.{starts, one_line, keyed, head, mark, head_of, mark_of};
+ghost use Rattle.lines.specs.Scan.{starts, one_line, keyed, head, mark, head_of};
 
-use decimal::{Cursor, Listed, Number};
+use decimal::Spelled;
 
 // The first two lines: modulus, degree and the place behind them.
-#[derive(Clone, Copy)]
-pub enum Head {
-    Of(u32, u32, Cursor),
-    None,
-}
-
-// The line of the mark, and the place behind it.
-#[derive(Clone, Copy)]
-pub enum Mark {
-    Of(bool, Cursor),
-    None,
+#[derive(Clone, Copy, Debug, PartialEq, Eq)]
+pub struct Head {
+    pub modulus: u32,
+    pub degree: u32,
+    pub end: usize,
 }
 
 // Whether the text starts with the key.
+#[tactic(auto, using(crate::proofs::Steps::starts_is))]
 pub fn has_key(text: &[u8], key: &[u8]) -> bool
     ensures { result ≡ starts key.now text.now }
 {
-    let mut i: usize = 0;
-    while i < key.len() {
-        if text.len() <= i {
-            return false;
-        }
-        if key[i] != text[i] {
-            return false;
-        }
-        i += 1;
-    }
-    true
+    text.starts_with(key)
 }
 
-// Reads a key, a number and a line feed at the front of the text.
-pub fn read_number_line(text: &[u8], key: &[u8]) -> Number
-    ensures { number_of result ≡ keyed key.now (one_line number) text.now }
+// Reads a key, a number and a line feed at the front of the text, and answers the number and the place behind them.
+pub fn read_number_line(text: &[u8], key: &[u8]) -> Option<(u32, usize)>
+    ensures { got_of result ≡ keyed key.now (one_line number) text.now }
 {
-    if has_key(text, key) {
-        let k = key.len();
-        let rest = &text[k..];
-        let Number::Value(v, c) = decimal::read_u32(rest) else {
-            return Number::Bad;
-        };
-        let at = c.at;
-        if decimal::byte_at(rest, at) != 10 {
-            return Number::Bad;
-        }
-        return Number::Value(v, Cursor { at: k + (at + 1) });
+    let rest = text.strip_prefix(key)?;
+    let (v, at) = decimal::read_u32(rest)?;
+    if decimal::byte_at(rest, at) != b'\n' {
+        return None;
     }
-    Number::Bad
+    Some((v, key.len() + at + 1))
 }
 
-// Reads a key and a line of numbers into the front of out.
-pub fn read_numbers_line(text: &[u8], key: &[u8], out: &mut [u32]) -> Listed
-    ensures { ListRead (keyed key.now (read_list number (length out.old)) text.now) result out.new }
+// Reads a key and a line of numbers into the front of out: how many numbers, and the place behind the line.
+pub fn read_list_line<T: Spelled>(text: &[u8], key: &[u8], out: &mut [T]) -> Option<(usize, usize)>
+    ensures { ListRead (keyed key.now (read_list T.scan (length out.old)) text.now) result out.new }
 {
-    if has_key(text, key) {
-        let k = key.len();
-        let Listed::Of(n, c) = decimal::read_numbers(&text[k..], out) else {
-            return Listed::None;
-        };
-        let at = c.at;
-        return Listed::Of(n, Cursor { at: k + at });
-    }
-    Listed::None
-}
-
-// The same for numbers from -999 to 999.
-pub fn read_signeds_line(text: &[u8], key: &[u8], out: &mut [i32]) -> Listed
-    ensures { ListRead (keyed key.now (read_list signed_number (length out.old)) text.now) result out.new }
-{
-    if has_key(text, key) {
-        let k = key.len();
-        let Listed::Of(n, c) = decimal::read_signeds(&text[k..], out) else {
-            return Listed::None;
-        };
-        let at = c.at;
-        return Listed::Of(n, Cursor { at: k + at });
-    }
-    Listed::None
+    let rest = text.strip_prefix(key)?;
+    let (n, at) = decimal::read_list(rest, out)?;
+    Some((n, key.len() + at))
 }
 
 // Writes the bytes at the place, and answers the place behind them, as each writer here does.
+#[tactic(auto, using(crate::proofs::Writes::copied))]
 pub fn write_bytes(out: &mut [u8], at: usize, bytes: &[u8]) -> usize
     requires { at + length bytes.now ≤ length out.old }
     ensures { Wrote bytes.now out.old at out.new result }
 {
-    let mut p = at;
-    let mut i: usize = 0;
-    while i < bytes.len() {
-        out[p] = bytes[i];
-        i += 1;
-        p += 1;
-    }
-    p
+    let end = at + bytes.len();
+    out[at..end].copy_from_slice(bytes);
+    end
 }
 
 pub fn write_number_line(out: &mut [u8], at: usize, key: &[u8], v: u32) -> usize
@@ -112,26 +65,19 @@ pub fn write_number_line(out: &mut [u8], at: usize, key: &[u8], v: u32) -> usize
 {
     let a = write_bytes(out, at, key);
     let b = decimal::write_u32(out, a, v);
-    decimal::write_byte(out, b, 10)
+    decimal::write_byte(out, b, b'\n')
 }
 
-pub fn write_numbers_line(out: &mut [u8], at: usize, key: &[u8], xs: &[u32]) -> usize
-    requires { at + length (list_line decimal key.now xs.now) ≤ length out.old }
-    ensures { Wrote (list_line decimal key.now xs.now) out.old at out.new result }
+pub fn write_list_line<T: Spelled>(out: &mut [u8], at: usize, key: &[u8], xs: &[T]) -> usize
+    requires { Each T.Fits xs.now × (at + length (list_line T.spell key.now xs.now) ≤ length out.old) }
+    ensures { Wrote (list_line T.spell key.now xs.now) out.old at out.new result }
 {
     let a = write_bytes(out, at, key);
-    decimal::write_numbers(out, a, xs)
-}
-
-pub fn write_signeds_line(out: &mut [u8], at: usize, key: &[u8], zs: &[i32]) -> usize
-    requires { Each Small zs.now × (at + length (list_line signed key.now zs.now) ≤ length out.old) }
-    ensures { Wrote (list_line signed key.now zs.now) out.old at out.new result }
-{
-    let a = write_bytes(out, at, key);
-    decimal::write_signeds(out, a, zs)
+    decimal::write_list(out, a, xs)
 }
 
 // The one line that a program answers where it refuses.
+#[tactic(auto, unfolding(crate::specs::Lines::refused_line, crate::specs::Lines::bytes))]
 pub fn write_refused(out: &mut [u8], code: u32) -> usize
     requires { length (refused_line code) ≤ length out.old }
     ensures { Wrote (refused_line code) out.old 0 out.new result }
@@ -140,33 +86,33 @@ pub fn write_refused(out: &mut [u8], code: u32) -> usize
 }
 
 // Reads the first two lines.
-pub fn read_head(text: &[u8]) -> Head
+pub fn read_head(text: &[u8]) -> Option<Head>
     ensures { head_of result ≡ head text.now }
 {
-    let Number::Value(modulus, c) = read_number_line(text, b"modulus=") else {
-        return Head::None;
-    };
-    let at = c.at;
-    let Number::Value(degree, d) = read_number_line(&text[at..], b"degree=") else {
-        return Head::None;
-    };
-    let next = d.at;
-    Head::Of(modulus, degree, Cursor { at: at + next })
+    let (modulus, at) = read_number_line(text, b"modulus=")?;
+    let (degree, next) = read_number_line(&text[at..], b"degree=")?;
+    Some(Head {
+        modulus,
+        degree,
+        end: at + next,
+    })
 }
 
-// Reads the line of the mark.
-pub fn read_mark(text: &[u8]) -> Mark
-    ensures { mark_of result ≡ mark text.now }
+// Reads the line of the mark, and answers the mark and the place behind the line.
+#[tactic(auto, unfolding(crate::specs::Scan::mark, crate::specs::Lines::mark_text, crate::specs::Lines::bytes))]
+pub fn read_mark(text: &[u8]) -> Option<(bool, usize)>
+    ensures { got_of result ≡ mark text.now }
 {
     if has_key(text, b"simple=yes\n") {
-        return Mark::Of(true, Cursor { at: 11 });
+        return Some((true, 11));
     }
     if has_key(text, b"simple=no\n") {
-        return Mark::Of(false, Cursor { at: 10 });
+        return Some((false, 10));
     }
-    Mark::None
+    None
 }
 
+#[tactic(auto, using(crate::proofs::Writes::head_length))]
 pub fn head_len(modulus: u32, degree: usize) -> usize
     requires { degree ≤ most_placements }
     ensures { (result ≡ length (head_text modulus degree)) × (result ≤ 37) }
@@ -176,6 +122,7 @@ pub fn head_len(modulus: u32, degree: usize) -> usize
 }
 
 // Writes the first two lines at the front of out, which has room for them, and answers the place behind them.
+#[tactic(auto, using(decimal::proofs::Writes::room_first, decimal::proofs::Writes::room_then), unfolding(crate::specs::Lines::head_text, crate::specs::Lines::bytes))]
 pub fn write_head(out: &mut [u8], modulus: u32, degree: usize) -> usize
     requires { (degree ≤ most_placements) × (0 + length (head_text modulus degree) ≤ length out.old) }
     ensures { Wrote (head_text modulus degree) out.old 0 out.new result }
@@ -184,15 +131,14 @@ pub fn write_head(out: &mut [u8], modulus: u32, degree: usize) -> usize
     write_number_line(out, at, b"degree=", degree as u32)
 }
 
+#[tactic(auto, unfolding(crate::specs::Lines::mark_text, crate::specs::Lines::bytes))]
 pub fn mark_len(simple: bool) -> usize
     ensures { (result ≡ length (mark_text simple)) × (result ≤ 11) }
 {
-    if simple {
-        return 11;
-    }
-    10
+    if simple { 11 } else { 10 }
 }
 
+#[tactic(auto, unfolding(crate::specs::Lines::mark_text, crate::specs::Lines::bytes))]
 pub fn write_mark(out: &mut [u8], at: usize, simple: bool) -> usize
     requires { at + length (mark_text simple) ≤ length out.old }
     ensures { Wrote (mark_text simple) out.old at out.new result }

@@ -10,88 +10,43 @@ ghost use Rattle.linres.specs.Passing.{Within};
 use std::io;
 use std::io::{Error, ErrorKind, Read, Stdin, Stdout, Write};
 
-// How often a call is made again that a signal interrupted. A loop has to end; no run comes to this.
+// How often a read is made again that a signal interrupted. A loop has to end; no run comes to this.
 const PATIENCE: u64 = u64::MAX;
 
-// How many bytes passed, or why a call failed.
-#[derive(Drop)]
-enum Passed {
-    Bytes(usize),
-    Failed(Error),
-}
-
 // One read from standard input, made again where a signal interrupts it. It passes no byte at the end.
-fn read_part(input: &mut Stdin, part: &mut [u8]) -> Passed
+fn read_part(input: &mut Stdin, part: &mut [u8]) -> io::Result<usize>
     ensures { Within (length part.new) result }
 {
-    let mut left = PATIENCE;
-    while left > 0 {
+    for _ in 0..PATIENCE {
         match input.read(part) {
-            Ok(got) => return Passed::Bytes(got),
-            Err(error) => {
-                if error.kind() != ErrorKind::Interrupted {
-                    return Passed::Failed(error);
-                }
-            }
+            Err(error) if error.kind() == ErrorKind::Interrupted => {}
+            passed => return passed,
         }
-        left -= 1;
     }
-    Passed::Failed(Error::from(ErrorKind::Interrupted))
-}
-
-// One write to standard output, made again where a signal interrupts it.
-fn write_part(output: &mut Stdout, part: &[u8]) -> Passed
-    ensures { Within (length part.now) result }
-{
-    let mut left = PATIENCE;
-    while left > 0 {
-        match output.write(part) {
-            Ok(put) => return Passed::Bytes(put),
-            Err(error) => {
-                if error.kind() != ErrorKind::Interrupted {
-                    return Passed::Failed(error);
-                }
-            }
-        }
-        left -= 1;
-    }
-    Passed::Failed(Error::from(ErrorKind::Interrupted))
+    Err(Error::from(ErrorKind::Interrupted))
 }
 
 // Reads until standard input ends or text is full.
-fn read_whole(input: &mut Stdin, text: &mut [u8]) -> Passed
+fn read_whole(input: &mut Stdin, text: &mut [u8]) -> io::Result<usize>
     ensures { Within (length text.new) result }
 {
     let mut n = 0;
+    // Each turn goes on by as many bytes as a read passed, which no range can count.
     while n < text.len() {
-        let got = match read_part(input, &mut text[n..]) {
-            Passed::Bytes(got) => got,
-            Passed::Failed(error) => return Passed::Failed(error),
-        };
+        let got = read_part(input, &mut text[n..])?;
         if got == 0 {
-            return Passed::Bytes(n);
+            break;
         }
         n += got;
     }
-    Passed::Bytes(n)
+    Ok(n)
 }
 
 // Writes the whole answer, which the caller has shown to be the one to the text; or says why it could not.
 fn write_whole(output: &mut Stdout, text: &[u8], answer: &[u8]) -> io::Result<()>
     requires { TextOf text.now answer.now }
 {
-    let mut done = 0;
-    while done < answer.len() {
-        let put = match write_part(output, &answer[done..]) {
-            Passed::Bytes(put) => put,
-            Passed::Failed(error) => return Err(error),
-        };
-        if put == 0 {
-            return Err(Error::from(ErrorKind::WriteZero));
-        }
-        done += put;
-    }
-    Ok(())
+    output.write_all(answer)
 }
 
 // Bytes enough for the system's words for any error.
@@ -121,8 +76,8 @@ fn say(rt: &HostRuntime, what: &str, error: Error) -> io::Result<()> {
 fn main(rt: HostRuntime) -> io::Result<()> {
     let mut text = [0u8; limits::LONGEST_TEXT + 1];
     let n = match read_whole(&mut rt.stdin(), &mut text) {
-        Passed::Bytes(n) => n,
-        Passed::Failed(error) => return say(&rt, "standard input could not be read", error),
+        Ok(n) => n,
+        Err(error) => return say(&rt, "standard input could not be read", error),
     };
     let mut out = [0u8; limits::LONGEST_ANSWER];
     let len = linres_text::answer_any(&text[..n], &mut out);

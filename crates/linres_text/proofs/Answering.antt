@@ -10,12 +10,12 @@ use Rattle.limits.specs.Limits.{most_placements, largest_room, longest_text, mos
 use Rattle.placements.specs.Placements.{placed}
 use Rattle.refusals.specs.Resolved.{Resolved}
 use Rattle.refusals.specs.Success.{Success}
-use Rattle.resolvents.specs.declared.Outcome.{Outcome}
+use Rattle.resolvents.specs.Results.{Outcome}
 use Rattle.resolvents.specs.Promise.{Promise, left}
 use Rattle.resolvents.specs.Slices.{asked}
 use Rattle.lines.specs.Lines.{refused_line}
-use Rattle.records.specs.declared.JobRead.{JobRead}
-use Rattle.records.specs.declared.Written.{Written}
+use Rattle.records.specs.Told.{JobRead}
+use Rattle.records.specs.Told.{Written}
 use Rattle.records.specs.Put.{Put}
 use Rattle.records.specs.Records.{Job, JobHolds, job_text, AnswerHolds, answer, answer_text}
 use Rattle.records.specs.Promises.{ReadsJob, WritesAnswer, job_read}

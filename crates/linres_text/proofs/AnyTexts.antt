@@ -4,7 +4,7 @@ use Rattle.std.specs.Prelude.{◌≡◌, List, ℕ, ◌≤◌, length, take, dro
 use Rattle.std.proofs.Common.{sym, ap, ◌∙◌, arith, length-append}
 use Rattle.std.proofs.Math.Seq.{take-append_seam}
 use Rattle.limits.specs.Limits.{longest_answer}
-use Rattle.records.specs.declared.Written.{Written}
+use Rattle.records.specs.Told.{Written}
 use Rattle.records.specs.Put.{over}
 use Rattle.linres_text.specs.Texts.{TextOf}
 use Rattle.linres_text.specs.Promise.{Puts}

@@ -6,7 +6,7 @@ use Rattle.std.proofs.Math.Decide.{ℕ_discrete, dec_lt, dec_le}
 use Rattle.std.proofs.Math.Seq.{take-append_seam}
 use Rattle.limits.specs.Limits.{longest_text, longest_answer}
 use Rattle.refusals.proofs.ResolvedOnly.{resolved_only}
-use Rattle.records.specs.declared.Written.{Written}
+use Rattle.records.specs.Told.{Written}
 use Rattle.records.proofs.Puts.{put_decides}
 use Rattle.records.specs.Records.{Job, JobHolds, job_text, answer, answer_text}
 use Rattle.records.proofs.Theorems.{is_job}

@@ -1,7 +1,7 @@
 -- What a function promises that writes a text of which several may be right: one of them stands at the front of out, or row 14 applies
 -- and nothing is touched.
 use Rattle.std.specs.Prelude.{List, ℕ}
-use Rattle.records.specs.declared.Written.{Written}
+use Rattle.records.specs.Told.{Written}
 use Rattle.records.specs.Put.{Put}
 
 -- `out` are the bytes before the call, `out'` after it

@@ -1,397 +1,320 @@
 // Reads and writes records at their edges, and prints what came out: the numbers of each answer, what is left of the slices, and the texts.
 #![tactic(auto)]
 
-ghost use Rattle.std.specs.Prelude.{◌≤◌};
+mod long;
 
-use records::Written;
+use checks::Refusal;
+use long::Repeated;
+use records::{AnswerHead, JobHead};
+use std::io;
 
 // One number more than a line of a job or an answer holds.
 const MANY_NUMBERS: usize = limits::MOST_NUMBERS + 1;
 
 const MANY_COEFFICIENTS: usize = limits::MOST_PLACEMENTS + 1;
 
-fn say(text: &[u8]) {
-    io::write_all(1, text);
+// What the slices hold that are lent.
+const LENT: u8 = 7;
+
+const LENT_TEXT: u8 = b'#';
+
+// Bytes enough for the longest job, for the longest answer, and for the short texts that are written.
+const JOB_ROOM: usize = 1200;
+
+const ANSWER_ROOM: usize = 11400;
+
+const SHORT_ROOM: usize = 60;
+
+// How many elements from the place on are still what was lent.
+fn kept<T: PartialEq + Copy>(elements: &[T], from: usize, lent: T) -> usize {
+    elements.iter().skip(from).filter(|x| **x == lent).count()
 }
 
-fn number(n: usize) {
-    say(b" ");
-    io::print_decimal(1, n as u64);
+// The ending of a line: whether a record was written back as the text that it was read from.
+fn ending(is_back: bool) -> &'static str {
+    if is_back { " same" } else { "" }
 }
 
-fn one_if(b: bool) -> usize
-    ensures { result ≤ 1 }
-{
-    if b {
-        return 1;
-    }
-    0
+// Whether what was read is written as the text.
+fn job_is_back(text: &[u8], head: JobHead, coeffs: &[u32], weights: &[i32]) -> bool {
+    let mut out = [LENT_TEXT; JOB_ROOM];
+    let cs = coeffs.get(..head.degree).unwrap_or(&[]);
+    let ws = weights.get(..head.weights).unwrap_or(&[]);
+    let Ok(len) = records::write_job(head.modulus, cs, ws, &mut out) else {
+        return false;
+    };
+    out.get(..len) == Some(text)
 }
 
-// How many words from the place on are still 7, as they were lent.
-fn kept(xs: &[u32], from: usize) -> usize {
-    let mut n: usize = 0;
-    let mut i = from;
-    while i < xs.len() {
-        n += one_if(xs[i] == 7);
-        i += 1;
-    }
-    n
-}
-
-fn kept_signed(zs: &[i32], from: usize) -> usize {
-    let mut n: usize = 0;
-    let mut i = from;
-    while i < zs.len() {
-        n += one_if(zs[i] == 7);
-        i += 1;
-    }
-    n
-}
-
-// How many bytes from the place on are still 35, as they were lent.
-fn kept_bytes(bytes: &[u8], from: usize) -> usize {
-    let mut n: usize = 0;
-    let mut i = from;
-    while i < bytes.len() {
-        n += one_if(bytes[i] == 35);
-        i += 1;
-    }
-    n
-}
-
-// Says whether the first n bytes of out are the text.
-fn compare(out: &[u8], n: usize, text: &[u8]) {
-    if n <= out.len() {
-        if check::same(&out[0..n], text) {
-            say(b" same");
-        }
-    }
-}
-
-// Writes what was read, and says whether it is the text.
-fn job_back(text: &[u8], modulus: u32, cs: &[u32], n: usize, ws: &[i32], m: usize) {
-    if n <= cs.len() {
-        if m <= ws.len() {
-            let mut out = [35u8; 1100];
-            let w = records::write_job(modulus, &cs[0..n], &ws[0..m], &mut out);
-            compare(&out, w.len, text);
-        }
-    }
-}
-
-fn answer_back(text: &[u8], modulus: u32, simple: bool, cs: &[u32], n: usize) {
-    if n <= cs.len() {
-        let mut out = [35u8; 11400];
-        let w = records::write_answer(modulus, simple, &cs[0..n], &mut out);
-        compare(&out, w.len, text);
-    }
+fn answer_is_back(text: &[u8], head: AnswerHead, coeffs: &[u32]) -> bool {
+    let mut out = [LENT_TEXT; ANSWER_ROOM];
+    let cs = coeffs.get(..head.degree).unwrap_or(&[]);
+    let Ok(len) = records::write_answer(head.modulus, head.simple, cs, &mut out) else {
+        return false;
+    };
+    out.get(..len) == Some(text)
 }
 
 // Reads a job: the case, the text's length, code, modulus, the two counts, the words kept, and whether it is written back as it was.
-fn job_in(case: usize, text: &[u8], cs: &mut [u32], ws: &mut [i32]) {
-    number(case);
-    let r = records::read_job(text, cs, ws);
-    let n = r.degree;
-    let m = r.weights;
-    number(text.len());
-    number(r.code as usize);
-    number(r.modulus as usize);
-    number(n);
-    number(m);
-    say(b" kept");
-    number(kept(cs, n));
-    number(kept_signed(ws, m));
-    if r.code == 0 {
-        job_back(text, r.modulus, cs, n, ws, m);
-    }
-    say(b"\n");
+fn job_in(
+    rt: &impl Print,
+    case: usize,
+    text: &[u8],
+    coeffs: &mut [u32],
+    weights: &mut [i32],
+) -> io::Result<()> {
+    let read = records::read_job(text, coeffs, weights);
+    let code = checks::code(&read);
+    let head = read.unwrap_or_default();
+    let (modulus, n, m) = (head.modulus, head.degree, head.weights);
+    let of_coeffs = kept(coeffs, n, u32::from(LENT));
+    let of_weights = kept(weights, m, i32::from(LENT));
+    let end = ending(read.is_ok() && job_is_back(text, head, coeffs, weights));
+    println!(rt;
+        " {case} {} {code} {modulus} {n} {m} kept {of_coeffs} {of_weights}{end}",
+        text.len()
+    )
 }
 
 // The same with slices of c and w words lent.
-fn job_lent(case: usize, text: &[u8], c: usize, w: usize) {
-    let mut cs = [7u32; MANY_NUMBERS];
-    let mut ws = [7i32; MANY_NUMBERS];
-    if c <= MANY_NUMBERS {
-        if w <= MANY_NUMBERS {
-            job_in(case, text, &mut cs[0..c], &mut ws[0..w]);
-        }
-    }
+fn job_lent(rt: &impl Print, case: usize, text: &[u8], c: usize, w: usize) -> io::Result<()> {
+    let mut coeffs = [u32::from(LENT); MANY_NUMBERS];
+    let mut weights = [i32::from(LENT); MANY_NUMBERS];
+    let c = c.min(MANY_NUMBERS);
+    let w = w.min(MANY_NUMBERS);
+    job_in(rt, case, text, &mut coeffs[..c], &mut weights[..w])
 }
 
-fn job(case: usize, text: &[u8]) {
-    job_lent(case, text, MANY_NUMBERS, MANY_NUMBERS);
+fn job(rt: &impl Print, case: usize, text: &[u8]) -> io::Result<()> {
+    job_lent(rt, case, text, MANY_NUMBERS, MANY_NUMBERS)
 }
 
-// The same for an answer, with its mark as 1 or 0.
-fn answer_in(case: usize, text: &[u8], cs: &mut [u32]) {
-    number(case);
-    let r = records::read_answer(text, cs);
-    let n = r.degree;
-    number(text.len());
-    number(r.code as usize);
-    number(r.modulus as usize);
-    number(n);
-    if r.simple {
-        say(b" yes");
-    } else {
-        say(b" no");
-    }
-    say(b" kept");
-    number(kept(cs, n));
-    if r.code == 0 {
-        answer_back(text, r.modulus, r.simple, cs, n);
-    }
-    say(b"\n");
+// The same for an answer, with its mark.
+fn answer_in(rt: &impl Print, case: usize, text: &[u8], coeffs: &mut [u32]) -> io::Result<()> {
+    let read = records::read_answer(text, coeffs);
+    let code = checks::code(&read);
+    let head = read.unwrap_or_default();
+    let (modulus, n) = (head.modulus, head.degree);
+    let mark = if head.simple { "yes" } else { "no" };
+    let of_coeffs = kept(coeffs, n, u32::from(LENT));
+    let end = ending(read.is_ok() && answer_is_back(text, head, coeffs));
+    println!(rt;
+        " {case} {} {code} {modulus} {n} {mark} kept {of_coeffs}{end}",
+        text.len()
+    )
 }
 
-fn answer_lent(case: usize, text: &[u8], c: usize) {
-    let mut cs = [7u32; MANY_COEFFICIENTS];
-    if c <= MANY_COEFFICIENTS {
-        answer_in(case, text, &mut cs[0..c]);
-    }
+fn answer_lent(rt: &impl Print, case: usize, text: &[u8], c: usize) -> io::Result<()> {
+    let mut coeffs = [u32::from(LENT); MANY_COEFFICIENTS];
+    let c = c.min(MANY_COEFFICIENTS);
+    answer_in(rt, case, text, &mut coeffs[..c])
 }
 
-fn answer(case: usize, text: &[u8]) {
-    answer_lent(case, text, MANY_COEFFICIENTS);
-}
-
-// Copies the bytes to the place, as far as there is room, and answers the place behind them.
-fn append(out: &mut [u8], at: usize, bytes: &[u8]) -> usize {
-    let mut p = at;
-    let mut i: usize = 0;
-    while i < bytes.len() {
-        if out.len() <= p {
-            return p;
-        }
-        out[p] = bytes[i];
-        p += 1;
-        i += 1;
-    }
-    p
-}
-
-// The same for n copies, with a line feed in place of the last byte.
-fn repeat(out: &mut [u8], at: usize, item: &[u8], n: usize) -> usize {
-    let mut p = at;
-    let mut i: usize = 0;
-    while i < n {
-        p = append(out, p, item);
-        i += 1;
-    }
-    if 0 < p {
-        if p <= out.len() {
-            out[p - 1] = 10;
-        }
-    }
-    p
-}
-
-// Reads a job of n coefficients and m weights, which are given with a comma behind each.
-fn long_job(case: usize, head: &[u8], coeff: &[u8], n: usize, weight: &[u8], m: usize) {
-    let mut text = [0u8; 1200];
-    let a = append(&mut text, 0, head);
-    let b = repeat(&mut text, a, coeff, n);
-    let c = append(&mut text, b, b"weights=");
-    let d = repeat(&mut text, c, weight, m);
-    if d <= 1200 {
-        job(case, &text[0..d]);
-    }
-}
-
-fn long_answer(case: usize, head: &[u8], coeff: &[u8], n: usize) {
-    let mut text = [0u8; 11400];
-    let a = append(&mut text, 0, head);
-    let b = repeat(&mut text, a, coeff, n);
-    if b <= 11400 {
-        answer(case, &text[0..b]);
-    }
+fn answer(rt: &impl Print, case: usize, text: &[u8]) -> io::Result<()> {
+    answer_lent(rt, case, text, MANY_COEFFICIENTS)
 }
 
 // What a writer did: code, length, the bytes kept, and the text.
-fn show(w: Written, out: &[u8]) {
-    let n = w.len;
-    number(w.code as usize);
-    number(n);
-    say(b" kept");
-    number(kept_bytes(out, n));
-    say(b"\n");
-    if n <= out.len() {
-        say(&out[0..n]);
-    }
+fn show(
+    rt: &impl Print,
+    case: usize,
+    written: Result<usize, Refusal>,
+    out: &[u8],
+) -> io::Result<()> {
+    let code = checks::code(&written);
+    let n = written.unwrap_or_default();
+    let of_text = kept(out, n, LENT_TEXT);
+    let text = out.get(..n).unwrap_or(&[]);
+    println!(rt; " {case} {code} {n} kept {of_text}")?;
+    rt.write_all(text)
 }
 
 // Writes a job into `room` bytes.
-fn put_job(case: usize, coeffs: &[u32], weights: &[i32], room: usize) {
-    let mut out = [35u8; 60];
-    if room <= 60 {
-        let part = &mut out[0..room];
-        number(case);
-        let w = records::write_job(257, coeffs, weights, part);
-        show(w, part);
-    }
+fn put_job(
+    rt: &impl Print,
+    case: usize,
+    coeffs: &[u32],
+    weights: &[i32],
+    room: usize,
+) -> io::Result<()> {
+    let mut out = [LENT_TEXT; SHORT_ROOM];
+    let room = room.min(SHORT_ROOM);
+    let written = records::write_job(257, coeffs, weights, &mut out[..room]);
+    show(rt, case, written, &out[..room])
 }
 
-fn put_answer(case: usize, simple: bool, coeffs: &[u32], room: usize) {
-    let mut out = [35u8; 60];
-    if room <= 60 {
-        let part = &mut out[0..room];
-        number(case);
-        let w = records::write_answer(257, simple, coeffs, part);
-        show(w, part);
-    }
+fn put_answer(
+    rt: &impl Print,
+    case: usize,
+    simple: bool,
+    coeffs: &[u32],
+    room: usize,
+) -> io::Result<()> {
+    let mut out = [LENT_TEXT; SHORT_ROOM];
+    let room = room.min(SHORT_ROOM);
+    let written = records::write_answer(257, simple, coeffs, &mut out[..room]);
+    show(rt, case, written, &out[..room])
 }
 
-fn jobs() {
+const JOBS: [&[u8]; 12] = [
     // the document's example
-    job(1, b"modulus=257\ndegree=4\ncoeffs=0,0,0,256\nweights=1,1\n");
+    b"modulus=257\ndegree=4\ncoeffs=0,0,0,256\nweights=1,1\n",
     // the largest and smallest numbers
-    job(
-        2,
-        b"modulus=4294967295\ndegree=2\ncoeffs=4294967295,0\nweights=-999,999,0\n",
-    );
+    b"modulus=4294967295\ndegree=2\ncoeffs=4294967295,0\nweights=-999,999,0\n",
     // an empty text
-    job(3, b"");
+    b"",
     // NUL
-    job(4, b"modulus=257\ndegree=1\ncoeffs=0\nweights=1\n\x00");
+    b"modulus=257\ndegree=1\ncoeffs=0\nweights=1\n\x00",
     // a byte above 127
-    job(5, b"modulus=257\ndegree=1\ncoeffs=\xb2\nweights=1\n");
+    b"modulus=257\ndegree=1\ncoeffs=\xb2\nweights=1\n",
     // CR LF
-    job(6, b"modulus=257\r\ndegree=1\r\ncoeffs=0\r\nweights=1\r\n");
+    b"modulus=257\r\ndegree=1\r\ncoeffs=0\r\nweights=1\r\n",
     // no last LF
-    job(7, b"modulus=257\ndegree=1\ncoeffs=0\nweights=1");
+    b"modulus=257\ndegree=1\ncoeffs=0\nweights=1",
     // leading zero
-    job(8, b"modulus=0257\ndegree=1\ncoeffs=0\nweights=1\n");
+    b"modulus=0257\ndegree=1\ncoeffs=0\nweights=1\n",
     // minus zero
-    job(9, b"modulus=257\ndegree=1\ncoeffs=0\nweights=-0\n");
+    b"modulus=257\ndegree=1\ncoeffs=0\nweights=-0\n",
     // one too large
-    job(10, b"modulus=4294967296\ndegree=1\ncoeffs=0\nweights=1\n");
-}
-
-fn counts() {
+    b"modulus=4294967296\ndegree=1\ncoeffs=0\nweights=1\n",
     // no weights
-    job(11, b"modulus=257\ndegree=1\ncoeffs=0\nweights=\n");
+    b"modulus=257\ndegree=1\ncoeffs=0\nweights=\n",
     // other degree
-    job(12, b"modulus=257\ndegree=1\ncoeffs=0,1\nweights=1\n");
+    b"modulus=257\ndegree=1\ncoeffs=0,1\nweights=1\n",
+];
+
+const LONG_JOBS: [(u32, Repeated, Repeated); 4] = [
     // 64 coefficients and 64 weights
-    long_job(13, b"modulus=257\ndegree=64\ncoeffs=", b"1,", 64, b"2,", 64);
+    (257, Repeated(1, 64), Repeated(2, 64)),
     // 65 coefficients
-    long_job(14, b"modulus=257\ndegree=65\ncoeffs=", b"1,", 65, b"2,", 64);
+    (257, Repeated(1, 65), Repeated(2, 64)),
     // 65 weights
-    long_job(15, b"modulus=257\ndegree=64\ncoeffs=", b"1,", 64, b"2,", 65);
+    (257, Repeated(1, 64), Repeated(2, 65)),
     // longest job
-    long_job(
-        16,
-        b"modulus=4294967295\ndegree=64\ncoeffs=",
-        b"4294967295,",
-        64,
-        b"-999,",
-        64,
-    );
+    (4294967295, Repeated(4294967295, 64), Repeated(-999, 64)),
+];
+
+fn jobs(rt: &impl Print) -> io::Result<()> {
+    for (i, text) in JOBS.iter().enumerate() {
+        job(rt, i + 1, text)?;
+    }
+    Ok(())
 }
 
-fn lent() {
+fn long_jobs(rt: &impl Print) -> io::Result<()> {
+    for (i, &(modulus, coeffs, weights)) in LONG_JOBS.iter().enumerate() {
+        let mut room = [0; JOB_ROOM];
+        let degree = coeffs.1;
+        let shown = format_args!(
+            "modulus={modulus}\ndegree={degree}\ncoeffs={coeffs}\nweights={weights}\n"
+        );
+        job(rt, JOBS.len() + i + 1, long::text(&mut room, shown)?)?;
+    }
+    Ok(())
+}
+
+fn lent(rt: &impl Print) -> io::Result<()> {
     let text = b"modulus=257\ndegree=1\ncoeffs=0\nweights=1\n";
     // 63 words lent
-    job_lent(1, text, 63, 64);
+    job_lent(rt, 1, text, 63, 64)?;
     // 63 weights lent
-    job_lent(2, text, 64, 63);
+    job_lent(rt, 2, text, 64, 63)?;
     // 63 words lent, no job
-    job_lent(3, b"job", 63, 64);
+    job_lent(rt, 3, b"job", 63, 64)?;
     // 64 and 64 lent
-    job_lent(4, text, 64, 64);
+    job_lent(rt, 4, text, 64, 64)?;
     let reply = b"modulus=257\ndegree=1\nsimple=yes\ncoeffs=0\n";
     // 1023 words lent
-    answer_lent(5, reply, 1023);
+    answer_lent(rt, 5, reply, 1023)?;
     // 1023 words lent, no answer
-    answer_lent(6, b"answer", 1023);
+    answer_lent(rt, 6, b"answer", 1023)?;
     // 1024 words lent
-    answer_lent(7, reply, 1024);
+    answer_lent(rt, 7, reply, 1024)
 }
 
-fn answers() {
+const ANSWERS: [&[u8]; 4] = [
     // the document's example
-    answer(
-        1,
-        b"modulus=257\ndegree=6\nsimple=yes\ncoeffs=0,0,0,4,0,0\n",
-    );
+    b"modulus=257\ndegree=6\nsimple=yes\ncoeffs=0,0,0,4,0,0\n",
     // the other mark
-    answer(2, b"modulus=257\ndegree=1\nsimple=no\ncoeffs=256\n");
+    b"modulus=257\ndegree=1\nsimple=no\ncoeffs=256\n",
     // neither mark
-    answer(3, b"modulus=257\ndegree=1\nsimple=maybe\ncoeffs=256\n");
+    b"modulus=257\ndegree=1\nsimple=maybe\ncoeffs=256\n",
     // other degree
-    answer(4, b"modulus=257\ndegree=2\nsimple=yes\ncoeffs=256\n");
+    b"modulus=257\ndegree=2\nsimple=yes\ncoeffs=256\n",
+];
+
+const LONG_ANSWERS: [(u32, &str, Repeated); 3] = [
     // 1,024 coefficients
-    long_answer(
-        5,
-        b"modulus=257\ndegree=1024\nsimple=no\ncoeffs=",
-        b"1,",
-        1024,
-    );
+    (257, "no", Repeated(1, 1024)),
     // 1,025 coefficients
-    long_answer(
-        6,
-        b"modulus=257\ndegree=1025\nsimple=no\ncoeffs=",
-        b"1,",
-        1025,
-    );
+    (257, "no", Repeated(1, 1025)),
     // longest answer
-    long_answer(
-        7,
-        b"modulus=4294967295\ndegree=1024\nsimple=yes\ncoeffs=",
-        b"4294967295,",
-        1024,
-    );
+    (4294967295, "yes", Repeated(4294967295, 1024)),
+];
+
+fn answers(rt: &impl Print) -> io::Result<()> {
+    for (i, text) in ANSWERS.iter().enumerate() {
+        answer(rt, i + 1, text)?;
+    }
+    Ok(())
 }
 
-fn written_jobs() {
-    let coeffs = [0u32, 0, 0, 256];
-    let weights = [1i32, -1];
-    let none = [0u32; 0];
-    let many = [0u32; MANY_NUMBERS];
-    let large = [1000i32];
+fn long_answers(rt: &impl Print) -> io::Result<()> {
+    for (i, &(modulus, mark, coeffs)) in LONG_ANSWERS.iter().enumerate() {
+        let mut room = [0; ANSWER_ROOM];
+        let degree = coeffs.1;
+        let shown = format_args!(
+            "modulus={modulus}\ndegree={degree}\nsimple={mark}\ncoeffs={coeffs}\n"
+        );
+        answer(rt, ANSWERS.len() + i + 1, long::text(&mut room, shown)?)?;
+    }
+    Ok(())
+}
+
+fn written_jobs(rt: &impl Print) -> io::Result<()> {
+    let coeffs = [0, 0, 0, 256];
+    let weights = [1, -1];
     // three bytes more
-    put_job(1, &coeffs, &weights, 54);
+    put_job(rt, 1, &coeffs, &weights, 54)?;
     // exactly long enough
-    put_job(2, &coeffs, &weights, 51);
+    put_job(rt, 2, &coeffs, &weights, 51)?;
     // one byte shorter
-    put_job(3, &coeffs, &weights, 50);
+    put_job(rt, 3, &coeffs, &weights, 50)?;
     // no coefficients
-    put_job(4, &none, &weights, 60);
+    put_job(rt, 4, &[], &weights, 60)?;
     // 65 coefficients, no room
-    put_job(5, &many, &weights, 0);
+    put_job(rt, 5, &[0; MANY_NUMBERS], &weights, 0)?;
     // weight 1000, no room
-    put_job(6, &coeffs, &large, 0);
+    put_job(rt, 6, &coeffs, &[1000], 0)
 }
 
-fn written_answers() {
-    let coeffs = [0u32, 0, 0, 4, 0, 0];
-    let none = [0u32; 0];
-    let many = [0u32; MANY_COEFFICIENTS];
+fn written_answers(rt: &impl Print) -> io::Result<()> {
+    let coeffs = [0, 0, 0, 4, 0, 0];
     // three bytes more
-    put_answer(1, true, &coeffs, 54);
+    put_answer(rt, 1, true, &coeffs, 54)?;
     // exactly long enough
-    put_answer(2, true, &coeffs, 51);
+    put_answer(rt, 2, true, &coeffs, 51)?;
     // one byte shorter
-    put_answer(3, true, &coeffs, 50);
+    put_answer(rt, 3, true, &coeffs, 50)?;
     // not simple
-    put_answer(4, false, &coeffs, 50);
+    put_answer(rt, 4, false, &coeffs, 50)?;
     // no coefficients, no room
-    put_answer(5, true, &none, 0);
+    put_answer(rt, 5, true, &[], 0)?;
     // 1025 coefficients, no room
-    put_answer(6, true, &many, 0);
+    put_answer(rt, 6, true, &[0; MANY_COEFFICIENTS], 0)
 }
 
-fn main() {
-    say(b"-- jobs\n");
-    jobs();
-    counts();
-    say(b"-- answers\n");
-    answers();
-    say(b"-- slices too short, and just long enough\n");
-    lent();
-    say(b"-- jobs written\n");
-    written_jobs();
-    say(b"-- answers written\n");
-    written_answers();
+fn main(rt: HostRuntime) -> io::Result<()> {
+    println!(rt; "-- jobs")?;
+    jobs(&rt)?;
+    long_jobs(&rt)?;
+    println!(rt; "-- answers")?;
+    answers(&rt)?;
+    long_answers(&rt)?;
+    println!(rt; "-- slices too short, and just long enough")?;
+    lent(&rt)?;
+    println!(rt; "-- jobs written")?;
+    written_jobs(&rt)?;
+    println!(rt; "-- answers written")?;
+    written_answers(&rt)
 }

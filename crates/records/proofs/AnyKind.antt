@@ -6,7 +6,7 @@ use Rattle.std.proofs.Common.{sym, ◌∙◌, ap, ap₂, arith}
 use Rattle.std.proofs.Math.Option.{Option, some, none}
 use Rattle.std.proofs.Math.Decide.{dec_lt}
 use Rattle.std.proofs.Math.Seq.{take-append_seam}
-use Rattle.records.specs.declared.Written.{Written}
+use Rattle.records.specs.Told.{Written}
 use Rattle.records.specs.Put.{over}
 use Rattle.records.specs.Kinds.{IsRecord, Kind, Reads, Writes}
 use Rattle.records.proofs.Puts.{put_decides}

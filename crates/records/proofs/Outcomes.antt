@@ -1,5 +1,5 @@
--- From what a function found to its promise: each way out gives one row, and rules the others out. A refused reader has counts of zero,
--- so what it copied is nothing.
+-- From what a function found to its promise: each way out gives one row, and rules the others out. A reader copies only where it found
+-- a record, and what it copies are the values.
 use Prim.Native.Nat.{ℕ, ◌≤◌}
 use mathlib.Core.Path.{◌≡◌, refl, sym, ◌∙◌, ap}
 use mathlib.Core.Option.{Option, some, none}
@@ -8,82 +8,100 @@ use native.Mathlib.Omega.{arith}
 use lib.IntN.{ℤ}
 use lib.ListN.{length, take, drop, length-append, length-drop}
 use lib.Seq.{take-append_seam}
-use Rattle.limits.specs.Limits.{most_numbers, most_placements}
-use Rattle.records.specs.declared.AnswerRead.{AnswerRead}
-use Rattle.records.specs.declared.JobRead.{JobRead}
-use Rattle.records.specs.declared.Written.{Written}
-use Rattle.records.specs.Records.{Answer, Job}
-use Rattle.records.specs.Put.{CopiedOver, Put, not_written, over}
+use Rattle.std.specs.Prelude.{Result}
+use Rattle.checks.specs.declared.Refusal.{Refusal}
+use Rattle.checks.specs.Refusal.{number_positive}
+use Rattle.std.specs.declared.result.Result.TheVariants.{Ok, Err}
+use Rattle.records.specs.declared.AnswerHead.{AnswerHead}
+use Rattle.records.specs.declared.JobHead.{JobHead}
+use Rattle.records.specs.Told.{AnswerRead, JobRead, Written, answer_told, job_told}
+use Rattle.records.specs.Put.{Put, over}
 use Rattle.records.specs.Kinds.{Kind, Reads, Writes}
-use Rattle.records.specs.Promises.{ReadsAnswer, ReadsJob, answer_kind, job_kind}
+use Rattle.records.specs.Promises.{AnswerRoom, JobRoom, ReadsAnswer, ReadsJob, answer_kind, job_kind}
 use Rattle.records.specs.Scan.{Parsed, read_answer, read_job}
-use Rattle.records.specs.Laws.{Whole, answers, jobs, never_some}
+use Rattle.records.proofs.AnyKind.{Lawful}
+use Rattle.records.proofs.Theorems.{answer_laws, job_laws}
 
 -- ---- a reader
-module _ (k : Kind) {t : List ℕ} {lent : k.Lent} {r : k.Answer} where
-  pub too_short : (k.Room lent → ⊥) → r ≡ k.refused 13 → Reads k t lent r lent
-  too_short n e = record { row_13 = λ _. (e, refl); no_record = λ o. absurd (n o); success = λ o. absurd (n o) }
+module _ {k : Kind} (L : Lawful k) {t : List ℕ} {r : k.Answer} where
+  module _ {arrays : k.Lent} (p : Parsed k (L.scan t) r arrays) where
+    -- code 0: the scanner found values, which stand at the fronts of the arrays
+    found_by : (o : Option k.Values) → L.scan t ≡ o → L.code r ≡ 0 → (v : k.Values) × (L.scan t ≡ some v) × (r ≡ k.read v) × (k.filled v arrays ≡ arrays)
+    found_by none e z = absurd (L.number_told (sym (L.code_refused k.number) ∙ ap L.code (sym (p.other e)) ∙ z))
+    found_by (some v) e z = (v, e, (p.values v e).0, (p.values v e).1)
 
-  module _ {scan : List ℕ → Option k.Values} (W : Whole k.Holds k.text scan) {arrays lent' : k.Lent} (room : k.Room lent) (p : Parsed k (scan t) r arrays)
-      (copied : (v : k.Values) → scan t ≡ some v → lent' ≡ k.filled v lent) (kept : scan t ≡ none → lent' ≡ lent) where
-    read_by : (o : Option k.Values) → scan t ≡ o → Reads k t lent r lent'
-    read_by none e = record {
-      row_13 = λ n. absurd (n room);
-      no_record = λ _ _. (p.other e, kept e);
-      success = λ _ v o q. absurd (never_some (sym e ∙ ap scan q ∙ W.complete v o));
-    }
-    read_by (some x) e = record {
-      row_13 = λ n. absurd (n room);
-      no_record = λ _ n. absurd (n (x, (W.sound t x e).0, (W.sound t x e).1));
-      success = λ _ v o q. let f = ap scan q ∙ W.complete v o in ((p.values v f).0, copied v f);
-    }
+    pub found : L.code r ≡ 0 → (v : k.Values) × (L.scan t ≡ some v) × (r ≡ k.read v) × (k.filled v arrays ≡ arrays)
+    found = found_by (L.scan t) refl
 
-    read_whole : Reads k t lent r lent'
-    read_whole = read_by (scan t) refl
+    module _ {lent : k.Lent} (room : k.Room lent) where
+      pub read_whole : {lent' : k.Lent} → L.code r ≡ 0 → ((v : k.Values) → r ≡ k.read v → k.filled v arrays ≡ arrays → lent' ≡ k.filled v lent) → Reads k t lent r lent'
+      read_whole z filled =
+          let (x, e, f, g) = found z in
+          record {
+            row_13 = λ n. absurd (n room);
+            no_record = λ _ n. absurd (n (x, (L.whole.sound t x e).0, (L.whole.sound t x e).1));
+            success = λ _ v o q.
+                let s : some v ≡ some x = sym (L.whole.complete v o) ∙ ap L.scan (sym q) ∙ e in
+                let same : v ≡ x = cc in
+                rw same (f, filled x f g);
+          }
 
--- what was copied: the values stand at the front of the array, or nothing was
-front_copied : {A : Type 0} (xs : List A) {array lent lent' : List A} {n : ℕ} → CopiedOver array n lent lent' → n ≡ length xs → over xs array ≡ array → lent' ≡ over xs lent
-front_copied xs {array} {lent} f e g =
-    let front : take (length xs) array ≡ xs = ap (take (length xs)) (sym g) ∙ take-append_seam xs (drop (length xs) array) in
-    f.is ∙ rw (e, front)
+      -- any other code: it found none, and nothing was touched
+      none_by : (L.code r ≡ 0 → ⊥) → (o : Option k.Values) → L.scan t ≡ o → L.scan t ≡ none
+      none_by n none e = e
+      none_by n (some v) e = absurd (n (ap L.code (p.values v e).0 ∙ L.code_read v))
 
-none_copied : {A : Type 0} {array lent lent' : List A} {n : ℕ} → CopiedOver array n lent lent' → n ≡ 0 → lent' ≡ lent
-none_copied f e = f.is ∙ rw e
+      pub read_none : (L.code r ≡ 0 → ⊥) → Reads k t lent r lent
+      read_none n = record {
+        row_13 = λ m. absurd (m room);
+        no_record = λ _ _. (p.other (none_by n (L.scan t) refl), refl);
+        success = λ _ v o q. absurd (n (ap L.code (p.values v (ap L.scan q ∙ L.whole.complete v o)).0 ∙ L.code_read v));
+      }
 
-front_fits : {A : Type 0} (xs array : List A) → over xs array ≡ array → length xs ≤ length array
-front_fits xs array e = omega (arith, ap length e, length-append xs (drop (length xs) array), length-drop (length xs) array)
+-- values that lie over the front of an array are its front, and it has room for them
+front_is : {A : Type 0} (xs array : List A) {n : ℕ} → n ≡ length xs → over xs array ≡ array → take n array ≡ xs
+front_is xs array e g = rw e (ap (take (length xs)) (sym g) ∙ take-append_seam xs (drop (length xs) array))
 
--- ---- the job reader
-pub job_counts : {r : JobRead} {cs : List ℕ} {ws : List ℤ} (found : Option Job) → Parsed job_kind found r (cs, ws) →
-    (r.degree ≤ length cs) × (r.weights ≤ length ws)
-job_counts {cs = cs} {ws} (some j) p =
-    let (e, f) = p.values j refl in
-    rw e (front_fits j.coeffs cs (ap (λ l. l.0) f), front_fits j.weights ws (ap (λ l. l.1) f))
-job_counts none p = rw (p.other refl) (omega arith)
+front_fits : {A : Type 0} (xs array : List A) {n : ℕ} → n ≡ length xs → over xs array ≡ array → n ≤ length array
+front_fits xs array e g = omega (arith, ap length g, length-append xs (drop (length xs) array), length-drop (length xs) array)
 
-module _ (t : List ℕ) {r : JobRead} {cs : List ℕ} {ws : List ℤ} (p : Parsed job_kind (read_job t) r (cs, ws)) where
-  pub job_copied : {c₀ c₁ : List ℕ} {w₀ w₁ : List ℤ} → most_numbers ≤ length c₀ → most_numbers ≤ length w₀ → CopiedOver cs r.degree c₀ c₁
-      → CopiedOver ws r.weights w₀ w₁ → ReadsJob t (c₀, w₀) r (c₁, w₁)
-  job_copied m n f g = read_whole job_kind jobs (m, n) p
-      (λ j e. let a = p.values j e in
-      rw (front_copied j.coeffs f (ap (λ x. x.degree) a.0) (ap (λ l. l.0) a.1), front_copied j.weights g (ap (λ x. x.weights) a.0) (ap (λ l. l.1) a.1)))
-      (λ e. let a = p.other e in rw (none_copied f (ap (λ x. x.degree) a), none_copied g (ap (λ x. x.weights) a)))
+-- ---- what the parsers answered: r is it as a result, q is how the code makes r
+module _ (t : List ℕ) {q r : Result JobHead Refusal} {cs : List ℕ} {ws : List ℤ} (e : r ≡ q) where
+  pub job_refused : {s : Result JobHead Refusal} {x y : Refusal} {lent : List ℕ × List ℤ} → r ≡ Err x → s ≡ Err y → y ≡ x → JobRoom lent →
+      Parsed job_kind (read_job t) (job_told q) (cs, ws) → ReadsJob t lent (job_told s) lent
+  job_refused {x = x} u v w room p = rw (v, w) (read_none job_laws (rw (sym e ∙ u) at p) room (λ z. omega (arith, number_positive x)))
 
--- ---- the answer reader
-pub answer_count : {r : AnswerRead} {cs : List ℕ} (found : Option Answer) → Parsed answer_kind found r cs → r.degree ≤ length cs
-answer_count {cs = cs} (some v) p = let (e, f) = p.values v refl in rw e (front_fits v.coeffs cs f)
-answer_count none p = rw (p.other refl) (omega arith)
+  module _ {h : JobHead} (u : r ≡ Ok h) (p : Parsed job_kind (read_job t) (job_told q) (cs, ws)) where
+    job_here : Parsed job_kind (read_job t) (job_told (Ok h)) (cs, ws)
+    job_here = rw (sym e ∙ u) at p
 
-module _ (t : List ℕ) {r : AnswerRead} {cs : List ℕ} (p : Parsed answer_kind (read_answer t) r cs) where
-  pub answer_copied : {c₀ c₁ : List ℕ} → most_placements ≤ length c₀ → CopiedOver cs r.degree c₀ c₁ → ReadsAnswer t c₀ r c₁
-  answer_copied m f = read_whole answer_kind answers m p
-      (λ v e. let a = p.values v e in front_copied v.coeffs f (ap (λ x. x.degree) a.0) a.1)
-      (λ e. none_copied f (ap (λ x. x.degree) (p.other e)))
+    pub job_counts : (h.degree ≤ length cs) × (h.weights ≤ length ws)
+    job_counts =
+        let (j, e, f, g) = found job_laws job_here refl in
+        (front_fits j.coeffs cs (ap (λ (x : JobRead). x.degree) f) (ap (λ l. l.0) g), front_fits j.weights ws (ap (λ (x : JobRead). x.weights) f) (ap (λ l. l.1) g))
+
+    pub job_copied : {c c' : List ℕ} {w w' : List ℤ} → JobRoom (c, w) → c' ≡ over (take h.degree cs) c → w' ≡ over (take h.weights ws) w → ReadsJob t (c, w) (job_told (Ok h)) (c', w')
+    job_copied room a b = read_whole job_laws job_here room refl (λ j f g.
+        let d = front_is j.coeffs cs (ap (λ (x : JobRead). x.degree) f) (ap (λ l. l.0) g) in
+        let e = front_is j.weights ws (ap (λ (x : JobRead). x.weights) f) (ap (λ l. l.1) g) in
+        rw (a, b, d, e))
+
+module _ (t : List ℕ) {q r : Result AnswerHead Refusal} {cs : List ℕ} (e : r ≡ q) where
+  pub answer_refused : {s : Result AnswerHead Refusal} {x y : Refusal} {lent : List ℕ} → r ≡ Err x → s ≡ Err y → y ≡ x → AnswerRoom lent →
+      Parsed answer_kind (read_answer t) (answer_told q) cs → ReadsAnswer t lent (answer_told s) lent
+  answer_refused {x = x} u v w room p = rw (v, w) (read_none answer_laws (rw (sym e ∙ u) at p) room (λ z. omega (arith, number_positive x)))
+
+  module _ {h : AnswerHead} (u : r ≡ Ok h) (p : Parsed answer_kind (read_answer t) (answer_told q) cs) where
+    answer_here : Parsed answer_kind (read_answer t) (answer_told (Ok h)) cs
+    answer_here = rw (sym e ∙ u) at p
+
+    pub answer_count : h.degree ≤ length cs
+    answer_count = let (a, e, f, g) = found answer_laws answer_here refl in front_fits a.coeffs cs (ap (λ (x : AnswerRead). x.degree) f) g
+
+    pub answer_copied : {c c' : List ℕ} → AnswerRoom c → c' ≡ over (take h.degree cs) c → ReadsAnswer t c (answer_told (Ok h)) c'
+    answer_copied room b = read_whole answer_laws answer_here room refl (λ a f g. let d = front_is a.coeffs cs (ap (λ (x : AnswerRead). x.degree) f) g in rw (b, d))
 
 -- ---- a writer
 module _ (k : Kind) {v : k.Values} {out : List ℕ} where
-  pub not_held : (k.Holds v → ⊥) → Writes k v out (not_written 15) out
-  not_held n = record { row_15 = λ _. (refl, refl); put = λ h. absurd (n h) }
-
   pub put_held : {r : Written} {out' : List ℕ} → k.Holds v → Put (k.text v) out r out' → Writes k v out r out'
   put_held h p = record { row_15 = λ n. absurd (n h); put = λ _. p }

@@ -11,20 +11,20 @@ use lib.ListN.{length, take, take-append-drop}
 use lib.Seq.{length-take-le}
 use borrow.Author.Tests.{eq-eqb, ne_eqb}
 use Rattle.limits.specs.Limits.{most_numbers}
-use Rattle.decimal.specs.declared.Cursor.{Cursor}
-use Rattle.decimal.specs.declared.Listed.{Listed}
-use Rattle.decimal.specs.declared.Listed.TheVariants.{None, Of}
+use Rattle.std.specs.Prelude.{refl, Some, None, Option as Answered, ok_or}
+use Rattle.checks.specs.declared.Refusal.TheVariants.{NoRecord}
 use Rattle.decimal.specs.Scan.{Got, ListRead, bad, got, number, read_list, signed_number}
 use Rattle.decimal.proofs.ListSteps.{rest, rest_is, rest_length}
 use Rattle.lines.specs.Lines.{bytes}
 use Rattle.lines.specs.Scan.{both, head, keyed}
 use Rattle.lines.specs.Laws.{Exact, within}
-use Rattle.records.specs.declared.AnswerRead.{AnswerRead}
-use Rattle.records.specs.declared.JobRead.{JobRead}
+use Rattle.records.specs.declared.AnswerHead.{AnswerHead}
+use Rattle.records.specs.declared.JobHead.{JobHead}
+use Rattle.records.specs.Told.{answer_told, job_told}
 use Rattle.records.specs.Records.{answer, job}
 use Rattle.records.specs.Put.{over}
 use Rattle.records.specs.Kinds.{Kind}
-use Rattle.records.specs.Promises.{answer_kind, job_kind, no_answer, no_job, other_text}
+use Rattle.records.specs.Promises.{answer_kind, job_kind}
 use Rattle.records.specs.Scan.{Format, Parsed, answer_format, coeffs_line, job_format, read_answer, read_job, read_record, weights_line}
 use Rattle.records.specs.Laws.{never_some}
 
@@ -72,22 +72,22 @@ module _ {A B X : Type 0} (F : Format A B X) (t : List ℕ) where
           record_read q = rw (all_found, eq-eqb _ _ ended, eq-eqb _ _ q)
 
 -- ---- the lists, with the room that the code lends
-pub counted : {A : Type 0} {g : Got (List A)} {r : Listed} {out : List A} {n : ℕ} {c : Cursor} → ListRead g r out → r ≡ Of n c → length (take n out) ≡ n
+pub counted : {A : Type 0} {g : Got (List A)} {r : Answered (ℕ × ℕ)} {out : List A} {n i : ℕ} → ListRead g r out → r ≡ Some (n, i) → length (take n out) ≡ n
 counted h e = length-take-le _ _ (rw e at h.fits)
 
-pub no_list : {A : Type 0} {g : Got (List A)} {r : Listed} {out : List A} → ListRead g r out → r ≡ None → g ≡ bad
+pub no_list : {A : Type 0} {g : Got (List A)} {r : Answered (ℕ × ℕ)} {out : List A} → ListRead g r out → r ≡ None → g ≡ bad
 no_list h e = sym (rw e at h.found)
 
-pub list_there : {A : Type 0} {scan : List ℕ → Got (List A)} {t : List ℕ} {r : Listed} {out : List A} {Ok : List A → Type 0} {render : List A → List ℕ} {n : ℕ} {c : Cursor} →
-    ListRead (scan t) r out → Exact Ok render scan → r ≡ Of n c → LineRead scan t (take n out) c.at
+pub list_there : {A : Type 0} {scan : List ℕ → Got (List A)} {t : List ℕ} {r : Answered (ℕ × ℕ)} {out : List A} {Ok : List A → Type 0} {render : List A → List ℕ} {n i : ℕ} →
+    ListRead (scan t) r out → Exact Ok render scan → r ≡ Some (n, i) → LineRead scan t (take n out) i
 list_there {t = t} h E e = line_read E t (sym (rw e at h.found))
 
-pub coeffs_read : (most : ℕ) (t : List ℕ) {l : ℕ} {r : Listed} {out : List ℕ} → l ≡ most → ListRead (keyed (bytes "coeffs=") (read_list number l) t) r out →
+pub coeffs_read : (most : ℕ) (t : List ℕ) {l : ℕ} {r : Answered (ℕ × ℕ)} {out : List ℕ} → l ≡ most → ListRead (keyed (bytes "coeffs=") (read_list number l) t) r out →
     ListRead (coeffs_line most t) r out
 unfolding coeffs_line
 coeffs_read most t {r = r} {out} p h = subst (λ (k : ℕ). ListRead (keyed (bytes "coeffs=") (read_list number k) t) r out) p h
 
-pub weights_read : (t : List ℕ) {l : ℕ} {r : Listed} {out : List ℤ} → l ≡ most_numbers → ListRead (keyed (bytes "weights=") (read_list signed_number l) t) r out →
+pub weights_read : (t : List ℕ) {l : ℕ} {r : Answered (ℕ × ℕ)} {out : List ℤ} → l ≡ most_numbers → ListRead (keyed (bytes "weights=") (read_list signed_number l) t) r out →
     ListRead (weights_line t) r out
 unfolding weights_line
 weights_read t {r = r} {out} p h = subst (λ (k : ℕ). ListRead (keyed (bytes "weights=") (read_list signed_number k) t) r out) p h
@@ -107,18 +107,20 @@ module _ {k : Kind} {found : Option k.Values} {r : k.Answer} {arrays : k.Lent} w
 over_front : {A : Type 0} (n : ℕ) (xs : List A) → length (take n xs) ≡ n → over (take n xs) xs ≡ xs
 over_front n xs e = rw e (take-append-drop n xs)
 
-pub job_none : (t : List ℕ) {r : JobRead} {arrays : List ℕ × List ℤ} → read_record job_format t ≡ none → r ≡ no_job other_text → Parsed job_kind (read_job t) r arrays
+pub job_none : (t : List ℕ) {o : Answered JobHead} {arrays : List ℕ × List ℤ} → read_record job_format t ≡ none → o ≡ None →
+    Parsed job_kind (read_job t) (job_told (ok_or o NoRecord)) arrays
 unfolding read_job
-job_none t e f = parsed_none e f
+job_none t e f = rw f (parsed_none e refl)
 
 pub job_some : (t : List ℕ) {cs : List ℕ} {ws : List ℤ} {m n w : ℕ} → read_record job_format t ≡ some (job m (take n cs) (take w ws))
     → length (take n cs) ≡ n → length (take w ws) ≡ w → Parsed job_kind (read_job t) (record { code = 0; modulus = m; degree = n; weights = w }) (cs, ws)
 unfolding read_job
 job_some t {cs} {ws} {m} {n} {w} e p q = parsed_some (job m (take n cs) (take w ws)) e (rw (p, q)) (rw (over_front n cs p, over_front w ws q))
 
-pub answer_none : (t : List ℕ) {r : AnswerRead} {cs : List ℕ} → read_record answer_format t ≡ none → r ≡ no_answer other_text → Parsed answer_kind (read_answer t) r cs
+pub answer_none : (t : List ℕ) {o : Answered AnswerHead} {cs : List ℕ} → read_record answer_format t ≡ none → o ≡ None →
+    Parsed answer_kind (read_answer t) (answer_told (ok_or o NoRecord)) cs
 unfolding read_answer
-answer_none t e f = parsed_none e f
+answer_none t e f = rw f (parsed_none e refl)
 
 pub answer_some : (t : List ℕ) {cs : List ℕ} {m n : ℕ} {s : Bool} → read_record answer_format t ≡ some (answer m s (take n cs)) → length (take n cs) ≡ n →
     Parsed answer_kind (read_answer t) (record { code = 0; modulus = m; degree = n; simple = s }) cs

@@ -5,7 +5,7 @@ use Rattle.std.proofs.Common.{sym, ◌∙◌, zero-add, arith}
 use Rattle.std.proofs.Math.Decide.{dec_lt}
 use Rattle.std.proofs.lemmas.List.Edits.{sets-eq}
 use Rattle.decimal.specs.Written.{Wrote}
-use Rattle.records.specs.declared.Written.{Written}
+use Rattle.records.specs.Told.{Written}
 use Rattle.records.specs.Put.{Put, not_written}
 
 pub put_decides : (s out : List ℕ) (r q : Written) (a b : List ℕ) → Put s out r a → Put s out q b → (r ≡ q) × (a ≡ b)

@@ -6,9 +6,11 @@ use Rattle.std.proofs.Math.Seq.{take-append_seam}
 use Rattle.limits.specs.Limits.{largest_written, most_numbers, most_placements}
 use Rattle.decimal.specs.Spelling.{Each, Small, Word, after, decimal, digits, largest_word, line, signed}
 use Rattle.lines.specs.Lines.{OneTo, bytes, head_text, mark_text}
-use Rattle.records.specs.declared.AnswerRead.{AnswerRead}
-use Rattle.records.specs.declared.JobRead.{JobRead}
-use Rattle.records.specs.declared.Written.{Written}
+use Rattle.std.specs.Prelude.{Result}
+use Rattle.checks.specs.declared.Refusal.{Refusal}
+use Rattle.records.specs.declared.AnswerHead.{AnswerHead}
+use Rattle.records.specs.declared.JobHead.{JobHead}
+use Rattle.records.specs.Told.{AnswerRead, JobRead, Written, answer_told, answer_told_once, job_told, job_told_once, written, written_once}
 use Rattle.records.specs.Records.{Answer, AnswerHolds, Job, JobHolds, answer, answer_text, job, job_text}
 use Rattle.records.specs.Put.{over}
 use Rattle.records.specs.Kinds.{IsRecord}
@@ -147,6 +149,22 @@ module _ {a : Answer} {out out' : List ℕ} {w : Written} (p : WritesAnswer a ou
   pub answer_reads_back : {lent l : List ℕ} {r : AnswerRead} → w.code ≡ 0 → ReadsAnswer (take w.len out') lent r l → AnswerRoom lent →
       (r ≡ answer_read a) × (l ≡ answer_filled a lent)
   answer_reads_back z q o = reads_back answer_laws p z q o
+
+-- ---- each promise allows one result, since the numbers tell it
+pub read_job_one_result : {t : List ℕ} {lent l k : List ℕ × List ℤ} {r s : Result JobHead Refusal} → ReadsJob t lent (job_told r) l → ReadsJob t lent (job_told s) k →
+    (r ≡ s) × (l ≡ k)
+read_job_one_result {r = r} {s} p q = let (e, f) = read_job_decides p q in (job_told_once r s e, f)
+
+pub read_answer_one_result : {t lent l k : List ℕ} {r s : Result AnswerHead Refusal} → ReadsAnswer t lent (answer_told r) l → ReadsAnswer t lent (answer_told s) k →
+    (r ≡ s) × (l ≡ k)
+read_answer_one_result {r = r} {s} p q = let (e, f) = read_answer_decides p q in (answer_told_once r s e, f)
+
+pub write_job_one_result : {j : Job} {out out' o : List ℕ} {r s : Result ℕ Refusal} → WritesJob j out (written r) out' → WritesJob j out (written s) o → (r ≡ s) × (out' ≡ o)
+write_job_one_result {r = r} {s} p q = let (e, f) = write_job_decides p q in (written_once r s e, f)
+
+pub write_answer_one_result : {a : Answer} {out out' o : List ℕ} {r s : Result ℕ Refusal} → WritesAnswer a out (written r) out' → WritesAnswer a out (written s) o →
+    (r ≡ s) × (out' ≡ o)
+write_answer_one_result {r = r} {s} p q = let (e, f) = write_answer_decides p q in (written_once r s e, f)
 
 -- ---- document 01's example
 pub example_job : job_text (job 257 (0 ∷ 0 ∷ 0 ∷ 256 ∷ []) (pos 1 ∷ pos 1 ∷ [])) ≡ bytes "modulus=257\ndegree=4\ncoeffs=0,0,0,256\nweights=1,1\n"

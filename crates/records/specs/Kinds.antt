@@ -1,7 +1,7 @@
 -- Any kind of record: what it is, and what its reader and its writer promise of every call: the rows of document 01's table in the order
 -- in which they are checked, and the success.
 use Rattle.std.specs.Prelude.{ℕ, ◌≡◌, List}
-use Rattle.records.specs.declared.Written.{Written}
+use Rattle.records.specs.Told.{Written}
 use Rattle.records.specs.Put.{Put, not_written}
 
 pub record Kind : Type 1 where

@@ -1,7 +1,8 @@
 -- The scanners read exactly the records: what is written is read, and what is read was written. Made of the laws of the lines: nothing
 -- follows the last line, so the text is all record, and the degree is the count.
-use Rattle.std.specs.Prelude.{ℕ, ◌≡◌, refl, List, [], ◌∷◌, ◌++◌, length}
+use Rattle.std.specs.Prelude.{ℕ, ◌≡◌, refl, List, [], ◌++◌, length}
 use Rattle.std.proofs.Common.{◌∙◌, ap, append-nil, arith, length-append, eq-eqb, ne_eqb}
+use Rattle.std.proofs.lemmas.List.{nil_from_length}
 use Rattle.std.proofs.Math.Option.{Option, some, none}
 use Rattle.std.proofs.Math.Decide.{ℕ_discrete}
 use Rattle.limits.specs.Limits.{most_numbers, most_placements}
@@ -34,15 +35,11 @@ weights_lines = keyeds (bytes "weights=") (lines signed_numbers most_numbers)
 pub never_some : {X : Type 0} {v : X} → ◌≡◌ {A = Option X} none (some v) → ⊥
 never_some h = let z : ◌≡◌ {A = ℕ} 0 1 = cc in omega arith
 
-nil_of : (m : List ℕ) → length m ≡ 0 → m ≡ []
-nil_of [] h = refl
-nil_of (x ∷ m) h = absurd (omega arith)
-
 -- a text that is all front
 begins_all : (l t : List ℕ) (i : ℕ) → Begins l t i → i ≡ length t → t ≡ l
 begins_all l t i f e =
     let z : length f.behind ≡ 0 = omega (arith, f.place, ap length f.whole, length-append l f.behind) in
-    f.whole ∙ rw (nil_of f.behind z) (append-nil l)
+    f.whole ∙ rw (nil_from_length f.behind z) (append-nil l)
 
 module _ {A B X : Type 0} (F : Format A B X) {OkA : A → Type 0} {OkB : B → Type 0} {textA : A → List ℕ} {textB : B → List ℕ}
     (E : Exact OkA textA F.first) (G : Exact OkB textB F.second) where

@@ -1,4 +1,5 @@
 pub mod Records
+pub mod Told
 pub mod Put
 pub mod Kinds
 pub mod Promises

@@ -1,9 +1,7 @@
 -- The two kinds of record of document 01, and what their readers and writers promise.
 use Rattle.std.specs.Prelude.{ℕ, ◌≤◌, false, List, ℤ, length}
 use Rattle.limits.specs.Limits.{most_numbers, most_placements}
-use Rattle.records.specs.declared.AnswerRead.{AnswerRead}
-use Rattle.records.specs.declared.JobRead.{JobRead}
-use Rattle.records.specs.declared.Written.{Written}
+use Rattle.records.specs.Told.{AnswerRead, JobRead, Written}
 use Rattle.records.specs.Records.{Answer, AnswerHolds, Job, JobHolds, answer_text, job_text}
 use Rattle.records.specs.Put.{over}
 use Rattle.records.specs.Kinds.{Kind, Reads, Writes}

@@ -1,15 +1,11 @@
 -- What a function that writes bytes promises of every call: they stand at the front of out and the rest is as it was, or the slice is
 -- too short and nothing is touched. Which of the two it is, is decided by the lengths, so the promise allows one outcome.
-use Rattle.std.specs.Prelude.{ℕ, ◌≤◌, ◌<◌, ◌≡◌, List, ◌++◌, length, take, drop}
-use Rattle.records.specs.declared.Written.{Written}
+use Rattle.std.specs.Prelude.{ℕ, ◌≤◌, ◌<◌, ◌≡◌, List, ◌++◌, length, drop}
+use Rattle.records.specs.Told.{Written}
 
 -- "it fills the front and leaves the rest"
 abbrev pub over : {A : Type 0} → List A → List A → List A
 over xs lent = xs ++ drop (length xs) lent
-
--- the first n of src over the first n of dst
-pub record CopiedOver {A : Type 0} (src : List A) (n : ℕ) (dst dst' : List A) : Type 0 where
-  pub is : dst' ≡ take n src ++ drop n dst
 
 -- "A refused writer returns the number and length 0."
 abbrev pub not_written : ℕ → Written

@@ -1,214 +1,133 @@
 // The two records of document 01, read and written. A record has one spelling.
 #![tactic(auto)]
 
-ghost use Rattle.std.specs.Prelude.{◌≡◌, true, ◌↔◌, ◌+◌, ◌≤◌, length};
+ghost use Rattle.std.specs.Prelude.{◌≡◌, true, ◌↔◌, ◌+◌, ◌≤◌, length, ok_or};
+ghost use Rattle.checks.specs.declared.Refusal.TheVariants.{NoRecord};
 ghost use Rattle.decimal.specs.Written.{Wrote};
 ghost use Rattle.records.specs.Records.{JobHolds, AnswerHolds, job, answer, job_text, answer_text};
 ghost use Rattle.limits.specs.Limits.{most_numbers, most_placements};
-ghost use Rattle.records.specs.Put.{CopiedOver};
-ghost use Rattle.records.specs.Promises.{ReadsJob, ReadsAnswer, WritesJob, WritesAnswer, job_kind, answer_kind, no_job, no_answer};
+ghost use Rattle.records.specs.Promises.{ReadsJob, ReadsAnswer, WritesJob, WritesAnswer, job_kind, answer_kind};
+ghost use Rattle.records.specs.Put.{over};
 ghost use Rattle.records.specs.Scan.{read_job, read_answer, Parsed};
+ghost use Rattle.records.specs.Told.{job_told, answer_told, written};
 
-use decimal::{Cursor, Listed};
-use lines::{Head, Mark};
+use checks::Refusal;
 
-// What reading a job gives: the number 0 or that of the refusal, the modulus, how many coefficients, how many weights.
-#[derive(Clone, Copy)]
-pub struct JobRead {
-    pub code: u32,
+// The values of a job but its lists, which go to the slices that are lent: the modulus, and how many coefficients and weights.
+#[derive(Clone, Copy, Debug, Default, PartialEq, Eq)]
+pub struct JobHead {
     pub modulus: u32,
     pub degree: usize,
     pub weights: usize,
 }
 
 // The same for an answer, with its mark.
-#[derive(Clone, Copy)]
-pub struct AnswerRead {
-    pub code: u32,
+#[derive(Clone, Copy, Debug, Default, PartialEq, Eq)]
+pub struct AnswerHead {
     pub modulus: u32,
     pub degree: usize,
     pub simple: bool,
 }
 
-// What writing a record gives: the number 0 or that of the refusal, and the record's length.
-#[derive(Clone, Copy)]
-pub struct Written {
-    pub code: u32,
-    pub len: usize,
+// The front goes over the front of lent; the rest is left.
+fn copy_over<T: Copy>(front: &[T], lent: &mut [T])
+    requires { length front.now ≤ length lent.old }
+    ensures { lent.new ≡ over front.now lent.old }
+{
+    lent[..front.len()].copy_from_slice(front);
 }
 
-fn refused_job(code: u32) -> JobRead
-    ensures { result ≡ no_job code }
-{
-    JobRead {
-        code,
-        modulus: 0,
-        degree: 0,
-        weights: 0,
-    }
-}
-
-fn refused_answer(code: u32) -> AnswerRead
-    ensures { result ≡ no_answer code }
-{
-    AnswerRead {
-        code,
-        modulus: 0,
-        degree: 0,
-        simple: false,
-    }
-}
-
-// The first n of src over the first n of dst.
-fn copy_words(src: &[u32], n: usize, dst: &mut [u32])
-    requires { (n ≤ length src.now) × (n ≤ length dst.old) }
-    ensures { CopiedOver src.now n dst.old dst.new }
-{
-    let mut i: usize = 0;
-    while i < n {
-        dst[i] = src[i];
-        i += 1;
-    }
-}
-
-fn copy_signeds(src: &[i32], n: usize, dst: &mut [i32])
-    requires { (n ≤ length src.now) × (n ≤ length dst.old) }
-    ensures { CopiedOver src.now n dst.old dst.new }
-{
-    let mut i: usize = 0;
-    while i < n {
-        dst[i] = src[i];
-        i += 1;
-    }
-}
+// A job and an answer have other fields and other lines, so the functions below stand twice: a trait for both kinds is longer than they
+// are, and no plainer.
 
 // The whole text as a job, whose lists go to the fronts of cs and ws; any other text leaves these in any state.
-fn parse_job(text: &[u8], cs: &mut [u32], ws: &mut [i32]) -> JobRead
+fn parse_job(text: &[u8], cs: &mut [u32], ws: &mut [i32]) -> Option<JobHead>
     requires { (length cs.old ≡ most_numbers) × (length ws.old ≡ most_numbers) }
-    ensures { Parsed job_kind (read_job text.now) result (cs.new, ws.new) }
+    ensures { Parsed job_kind (read_job text.now) (job_told (ok_or result NoRecord)) (cs.new, ws.new) }
 {
-    let Head::Of(modulus, degree, c) = lines::read_head(text) else {
-        return refused_job(1);
-    };
-    let a = c.at;
-    let first = &text[a..];
-    let Listed::Of(n, d) = lines::read_numbers_line(first, b"coeffs=", cs) else {
-        return refused_job(1);
-    };
-    let b = d.at;
-    let second = &first[b..];
-    let Listed::Of(m, e) = lines::read_signeds_line(second, b"weights=", ws) else {
-        return refused_job(1);
-    };
-    let end = e.at;
-    if end != second.len() {
-        return refused_job(1);
+    let head = lines::read_head(text)?;
+    let first = &text[head.end..];
+    let (n, behind) = lines::read_list_line(first, b"coeffs=", cs)?;
+    let second = &first[behind..];
+    let (m, end) = lines::read_list_line(second, b"weights=", ws)?;
+    if end != second.len() || head.degree as usize != n {
+        return None;
     }
-    if degree as usize != n {
-        return refused_job(1);
-    }
-    JobRead {
-        code: 0,
-        modulus,
+    Some(JobHead {
+        modulus: head.modulus,
         degree: n,
         weights: m,
-    }
+    })
 }
 
-// Reads the text as a job into the fronts of coeffs and weights. A refusal has counts of zero, so it copies nothing.
-pub fn read_job(text: &[u8], coeffs: &mut [u32], weights: &mut [i32]) -> JobRead
-    ensures { ReadsJob text.now (coeffs.old, weights.old) result (coeffs.new, weights.new) }
+// Reads the text as a job into the fronts of coeffs and weights. A refusal leaves both as they were.
+pub fn read_job(text: &[u8], coeffs: &mut [u32], weights: &mut [i32]) -> Result<JobHead, Refusal>
+    ensures { ReadsJob text.now (coeffs.old, weights.old) (job_told result) (coeffs.new, weights.new) }
 {
-    if coeffs.len() < limits::MOST_NUMBERS {
-        return refused_job(13);
-    }
-    if weights.len() < limits::MOST_NUMBERS {
-        return refused_job(13);
+    if coeffs.len() < limits::MOST_NUMBERS || weights.len() < limits::MOST_NUMBERS {
+        return Err(Refusal::ShortLists);
     }
     let mut cs = [0u32; limits::MOST_NUMBERS];
     let mut ws = [0i32; limits::MOST_NUMBERS];
-    let r = parse_job(text, &mut cs, &mut ws);
-    let n = r.degree;
-    let m = r.weights;
-    copy_words(&cs, n, coeffs);
-    copy_signeds(&ws, m, weights);
-    r
+    let found = parse_job(text, &mut cs, &mut ws);
+    let head = found.ok_or(Refusal::NoRecord)?;
+    copy_over(&cs[..head.degree], coeffs);
+    copy_over(&ws[..head.weights], weights);
+    Ok(head)
 }
 
 // The whole text as an answer, whose coefficients go to the front of cs; any other text leaves it in any state.
-fn parse_answer(text: &[u8], cs: &mut [u32]) -> AnswerRead
+fn parse_answer(text: &[u8], cs: &mut [u32]) -> Option<AnswerHead>
     requires { length cs.old ≡ most_placements }
-    ensures { Parsed answer_kind (read_answer text.now) result cs.new }
+    ensures { Parsed answer_kind (read_answer text.now) (answer_told (ok_or result NoRecord)) cs.new }
 {
-    let Head::Of(modulus, degree, c) = lines::read_head(text) else {
-        return refused_answer(1);
-    };
-    let a = c.at;
-    let first = &text[a..];
-    let Mark::Of(simple, d) = lines::read_mark(first) else {
-        return refused_answer(1);
-    };
-    let b = d.at;
-    let second = &first[b..];
-    let Listed::Of(count, e) = lines::read_numbers_line(second, b"coeffs=", cs) else {
-        return refused_answer(1);
-    };
-    let end = e.at;
-    if end != second.len() {
-        return refused_answer(1);
+    let head = lines::read_head(text)?;
+    let first = &text[head.end..];
+    let (simple, behind) = lines::read_mark(first)?;
+    let second = &first[behind..];
+    let (count, end) = lines::read_list_line(second, b"coeffs=", cs)?;
+    if end != second.len() || head.degree as usize != count {
+        return None;
     }
-    if degree as usize != count {
-        return refused_answer(1);
-    }
-    AnswerRead {
-        code: 0,
-        modulus,
+    Some(AnswerHead {
+        modulus: head.modulus,
         degree: count,
         simple,
-    }
+    })
 }
 
-// Reads the text as an answer into the front of coeffs.
-pub fn read_answer(text: &[u8], coeffs: &mut [u32]) -> AnswerRead
-    ensures { ReadsAnswer text.now coeffs.old result coeffs.new }
+// Reads the text as an answer into the front of coeffs. A refusal leaves it as it was.
+pub fn read_answer(text: &[u8], coeffs: &mut [u32]) -> Result<AnswerHead, Refusal>
+    ensures { ReadsAnswer text.now coeffs.old (answer_told result) coeffs.new }
 {
     if coeffs.len() < limits::MOST_PLACEMENTS {
-        return refused_answer(13);
+        return Err(Refusal::ShortLists);
     }
     let mut cs = [0u32; limits::MOST_PLACEMENTS];
-    let r = parse_answer(text, &mut cs);
-    let count = r.degree;
-    copy_words(&cs, count, coeffs);
-    r
+    let found = parse_answer(text, &mut cs);
+    let head = found.ok_or(Refusal::NoRecord)?;
+    copy_over(&cs[..head.degree], coeffs);
+    Ok(head)
 }
 
 // Whether a job can hold the values.
 fn job_holds(modulus: u32, coeffs: &[u32], weights: &[i32]) -> bool
     ensures { (result ≡ true) ↔ JobHolds (job modulus coeffs.now weights.now) }
 {
-    let n = coeffs.len();
-    let m = weights.len();
-    if n == 0 {
-        return false;
-    }
-    if limits::MOST_NUMBERS < n {
-        return false;
-    }
-    if m == 0 {
-        return false;
-    }
-    if limits::MOST_NUMBERS < m {
-        return false;
-    }
-    decimal::each_small(weights)
+    (1..=limits::MOST_NUMBERS).contains(&coeffs.len())
+        && (1..=limits::MOST_NUMBERS).contains(&weights.len())
+        && decimal::each_small(weights)
 }
 
 fn job_len(modulus: u32, coeffs: &[u32], weights: &[i32]) -> usize
     requires { JobHolds (job modulus coeffs.now weights.now) }
     ensures { result ≡ length (job_text (job modulus coeffs.now weights.now)) }
 {
-    let a = lines::head_len(modulus, coeffs.len()) + (7 + decimal::numbers_width(coeffs));
-    a + (8 + decimal::signeds_width(weights))
+    lines::head_len(modulus, coeffs.len())
+        + b"coeffs=".len()
+        + decimal::list_width(coeffs)
+        + b"weights=".len()
+        + decimal::list_width(weights)
 }
 
 // Writes the job at the front of out, which has room for it.
@@ -217,31 +136,36 @@ fn put_job(out: &mut [u8], modulus: u32, coeffs: &[u32], weights: &[i32]) -> usi
     ensures { Wrote (job_text (job modulus coeffs.now weights.now)) out.old 0 out.new result }
 {
     let a = lines::write_head(out, modulus, coeffs.len());
-    let b = lines::write_numbers_line(out, a, b"coeffs=", coeffs);
-    lines::write_signeds_line(out, b, b"weights=", weights)
+    let b = lines::write_list_line(out, a, b"coeffs=", coeffs);
+    lines::write_list_line(out, b, b"weights=", weights)
 }
 
 // Writes the job at the front of out and answers its length.
-pub fn write_job(modulus: u32, coeffs: &[u32], weights: &[i32], out: &mut [u8]) -> Written
-    ensures { WritesJob (job modulus coeffs.now weights.now) out.old result out.new }
+pub fn write_job(
+    modulus: u32,
+    coeffs: &[u32],
+    weights: &[i32],
+    out: &mut [u8],
+) -> Result<usize, Refusal>
+    ensures { WritesJob (job modulus coeffs.now weights.now) out.old (written result) out.new }
 {
-    if job_holds(modulus, coeffs, weights) {
-        let n = job_len(modulus, coeffs, weights);
-        if out.len() < n {
-            return Written { code: 14, len: 0 };
-        }
-        let len = put_job(out, modulus, coeffs, weights);
-        return Written { code: 0, len };
+    if !job_holds(modulus, coeffs, weights) {
+        return Err(Refusal::NotHeld);
     }
-    Written { code: 15, len: 0 }
+    if out.len() < job_len(modulus, coeffs, weights) {
+        return Err(Refusal::ShortText);
+    }
+    Ok(put_job(out, modulus, coeffs, weights))
 }
 
 fn answer_len(modulus: u32, simple: bool, coeffs: &[u32]) -> usize
     requires { AnswerHolds (answer modulus simple coeffs.now) }
     ensures { result ≡ length (answer_text (answer modulus simple coeffs.now)) }
 {
-    let a = lines::head_len(modulus, coeffs.len()) + lines::mark_len(simple);
-    a + (7 + decimal::numbers_width(coeffs))
+    lines::head_len(modulus, coeffs.len())
+        + lines::mark_len(simple)
+        + b"coeffs=".len()
+        + decimal::list_width(coeffs)
 }
 
 // Writes the answer at the front of out, which has room for it.
@@ -251,23 +175,23 @@ fn put_answer(out: &mut [u8], modulus: u32, simple: bool, coeffs: &[u32]) -> usi
 {
     let a = lines::write_head(out, modulus, coeffs.len());
     let b = lines::write_mark(out, a, simple);
-    lines::write_numbers_line(out, b, b"coeffs=", coeffs)
+    lines::write_list_line(out, b, b"coeffs=", coeffs)
 }
 
 // Writes the answer at the front of out and answers its length.
-pub fn write_answer(modulus: u32, simple: bool, coeffs: &[u32], out: &mut [u8]) -> Written
-    ensures { WritesAnswer (answer modulus simple coeffs.now) out.old result out.new }
+pub fn write_answer(
+    modulus: u32,
+    simple: bool,
+    coeffs: &[u32],
+    out: &mut [u8],
+) -> Result<usize, Refusal>
+    ensures { WritesAnswer (answer modulus simple coeffs.now) out.old (written result) out.new }
 {
-    if coeffs.len() == 0 {
-        return Written { code: 15, len: 0 };
+    if !(1..=limits::MOST_PLACEMENTS).contains(&coeffs.len()) {
+        return Err(Refusal::NotHeld);
     }
-    if limits::MOST_PLACEMENTS < coeffs.len() {
-        return Written { code: 15, len: 0 };
+    if out.len() < answer_len(modulus, simple, coeffs) {
+        return Err(Refusal::ShortText);
     }
-    let n = answer_len(modulus, simple, coeffs);
-    if out.len() < n {
-        return Written { code: 14, len: 0 };
-    }
-    let len = put_answer(out, modulus, simple, coeffs);
-    Written { code: 0, len }
+    Ok(put_answer(out, modulus, simple, coeffs))
 }

@@ -1,7 +1,9 @@
 -- What is known of a call when its checks are made: the number of the first of rows 2 to 12 that applies and, where none does, N and
 -- the product of m!.
-use Rattle.std.specs.Prelude.{◌≡◌, List, ℕ}
+use Rattle.std.specs.Prelude.{◌≡◌, List, ℕ, Result, IfOk}
 use Rattle.checks.specs.Checks.{first}
+use Rattle.checks.specs.Refusal.{code}
+use Rattle.checks.specs.declared.Refusal.{Refusal}
 use Rattle.algebra.specs.Integer.{ℤ_eq}
 use Rattle.placements.specs.Placements.{factorials}
 use Rattle.weights.specs.declared.Weights.{Weights}
@@ -12,7 +14,7 @@ use Rattle.refusals.specs.Refusals.{Call, weights, N, call_checks}
 abbrev pub given : ℕ → List ℕ → Weights → List ℕ → List ℕ → Call
 given p f list output work = record { p = p; f = f; places = list.places; r = list.len; output = output; work = work }
 
-pub record Judged (c : Call) (j : Judgement) : Type 0 where
-  pub code : j.code ≡ first (call_checks c)
-  pub count : first (call_checks c) ≡ 0 → j.count ≡ N c
-  pub product : first (call_checks c) ≡ 0 → j.product ≡ factorials ℤ_eq (weights c)
+pub record Judged (c : Call) (r : Result Judgement Refusal) : Type 0 where
+  pub code : code r ≡ first (call_checks c)
+  pub count : IfOk r (λ j. j.count ≡ N c)
+  pub product : IfOk r (λ j. j.product ≡ factorials ℤ_eq (weights c))

@@ -4,64 +4,57 @@
 ghost use Rattle.std.specs.Prelude.{◌≡◌, ◌++◌, suc, ◌%◌, ◌<◌, ◌≤◌, leb, eqb, length, get_or};
 ghost use Rattle.limits.specs.Limits.{capacity, most_placements};
 ghost use Rattle.checks.specs.Checks.{first, some_below};
+ghost use Rattle.checks.specs.Refusal.{code};
 ghost use Rattle.weights.specs.Lists.{listed};
 ghost use Rattle.refusals.specs.Refusals.{bad_weight, some_bad, modulus_checks, degree_checks, coefficient_checks, weight_checks, number_checks, room_checks, divisor_checks};
 ghost use Rattle.refusals.specs.Judged.{given, Judged};
 
+use checks::Refusal;
+use residues::Modulus;
 use weights::Weights;
 
 // Rows 2 and 3.
-fn modulus_refusal(p: u32) -> u32
-    ensures { result ≡ first (modulus_checks p) }
+#[tactic(auto, using(residues::specs::Trial::is_prime_iff), unfolding(crate::specs::Refusals::modulus_checks, checks::specs::Checks::first))]
+fn check_modulus(p: u32) -> Result<(), Refusal>
+    ensures { code result ≡ first (modulus_checks p) }
 {
-    if p < limits::LEAST_MODULUS {
-        return 2;
+    if !(limits::LEAST_MODULUS..=limits::LARGEST_MODULUS).contains(&p) {
+        return Err(Refusal::ModulusOutOfRange);
     }
-    let large = p > limits::LARGEST_MODULUS;
-    if large {
-        return 2;
+    if !primes::is_prime(p) {
+        return Err(Refusal::NotPrime);
     }
-    if primes::is_prime(p) { 0 } else { 3 }
+    Ok(())
 }
 
 // Whether some coefficient is p or more.
 fn has_large(p: u32, f: &[u32]) -> bool
     ensures { result ≡ some_below (λ i. leb p (get_or f.now i 0)) (length f.now) }
 {
-    let mut i = 0;
-    while i < f.len() {
-        if f[i] >= p {
-            return true;
-        }
-        i += 1;
-    }
-    false
+    f.iter().any(|c| *c >= p)
 }
 
 // Rows 4 and 5.
-fn polynomial_refusal(p: u32, f: &[u32]) -> u32
-    ensures { result ≡ first (degree_checks f.now ++ coefficient_checks p f.now) }
+#[tactic(auto, unfolding(crate::specs::Refusals::degree_checks, crate::specs::Refusals::coefficient_checks, crate::specs::Refusals::zero_or_above, checks::specs::Checks::first))]
+fn check_polynomial(p: u32, f: &[u32]) -> Result<(), Refusal>
+    ensures { code result ≡ first (degree_checks f.now ++ coefficient_checks p f.now) }
 {
-    if f.len() == 0 {
-        return 4;
+    if !(1..=limits::HIGHEST_DEGREE).contains(&f.len()) {
+        return Err(Refusal::DegreeOutOfRange);
     }
-    if f.len() > limits::HIGHEST_DEGREE {
-        return 4;
+    if has_large(p, f) {
+        return Err(Refusal::LargeCoefficient);
     }
-    if has_large(p, f) { 5 } else { 0 }
+    Ok(())
 }
 
 // Whether a weight is 0 or outside -16 to 16.
+#[tactic(auto, unfolding(crate::specs::Refusals::zero_or_above))]
 fn is_bad(e: i32) -> bool
     ensures { result ≡ bad_weight e }
 {
-    if e == 0 {
-        return true;
-    }
-    if e < -limits::LARGEST_WEIGHT {
-        return true;
-    }
-    e > limits::LARGEST_WEIGHT
+    let size = e.unsigned_abs();
+    size == 0 || size > limits::LARGEST_WEIGHT as u32
 }
 
 // Whether some weight of the list is.
@@ -69,129 +62,101 @@ fn has_bad(list: Weights) -> bool
     requires { list.len ≤ capacity }
     ensures { result ≡ some_bad (listed list) }
 {
-    let r = list.len;
-    let mut i = 0;
-    while i < r {
-        if is_bad(list.places[i]) {
-            return true;
-        }
-        i += 1;
-    }
-    false
+    list.places[..list.len].iter().any(|e| is_bad(*e))
 }
 
 // Rows 6, 7 and 8.
-pub fn weight_refusal(n: usize, list: Weights) -> u32
-    ensures { result ≡ first (weight_checks n list.len (listed list)) }
+#[tactic(auto, unfolding(crate::specs::Refusals::weight_checks, crate::specs::Refusals::zero_or_above, checks::specs::Checks::first))]
+pub fn check_weights(n: usize, list: Weights) -> Result<(), Refusal>
+    ensures { code result ≡ first (weight_checks n list.len (listed list)) }
 {
-    let r = list.len;
-    if r == 0 {
-        return 6;
+    if !(1..=limits::CAPACITY).contains(&list.len) {
+        return Err(Refusal::CountOutOfRange);
     }
-    if r > limits::CAPACITY {
-        return 6;
+    if list.len > n {
+        return Err(Refusal::MoreWeightsThanZeros);
     }
-    if r > n {
-        return 7;
+    if has_bad(list) {
+        return Err(Refusal::WeightOutOfRange);
     }
-    if has_bad(list) { 8 } else { 0 }
+    Ok(())
 }
 
 // Rows 9 and 10.
-fn number_refusal(p: u32, n: u64) -> u32
-    ensures { result ≡ first (number_checks p n) }
+#[tactic(auto, unfolding(crate::specs::Refusals::number_checks, checks::specs::Checks::first))]
+fn check_number(p: u32, n: u64) -> Result<(), Refusal>
+    ensures { code result ≡ first (number_checks p n) }
 {
     if n > limits::MOST_PLACEMENTS as u64 {
-        return 9;
+        return Err(Refusal::ManyPlacements);
     }
-    if n >= p as u64 { 10 } else { 0 }
+    if n >= p as u64 {
+        return Err(Refusal::PlacementsReachModulus);
+    }
+    Ok(())
 }
 
-// Rows 11 and 12.
-fn room_refusal(n: usize, output: usize, work: usize) -> u32
+// Rows 11 and 12. (N is at most 1,024 from here on by row 9: a clause, since rows 11, 12 and 16 may not be asked before.)
+#[tactic(auto, unfolding(crate::specs::Refusals::room_checks, checks::specs::Checks::first))]
+fn check_room(n: usize, output: usize, work: usize) -> Result<(), Refusal>
     requires { n ≤ most_placements }
-    ensures { result ≡ first (room_checks n output work) }
+    ensures { code result ≡ first (room_checks n output work) }
 {
     if output < n {
-        return 11;
+        return Err(Refusal::ShortOutput);
     }
     if work < limits::WORK_ROWS * (n + 1) {
-        12
-    } else {
-        0
+        return Err(Refusal::ShortWork);
     }
+    Ok(())
 }
 
-// What is known of a call that is judged: its number and, where that is 0, N and the product of m!.
+// What is known of a call that none of rows 2 to 12 refuses: N and the product of m!.
 #[derive(Clone, Copy)]
 pub struct Judgement {
-    pub code: u32,
     pub count: usize,
     pub product: u32,
 }
 
-fn refused(code: u32) -> Judgement
-    ensures { result.code ≡ code }
-{
-    Judgement {
-        code,
-        count: 0,
-        product: 0,
-    }
-}
-
 // Rows 2 to 12.
-pub fn judged(p: u32, f: &[u32], list: Weights, output: &[u32], work: &[u32]) -> Judgement
+pub fn judged(
+    p: u32,
+    f: &[u32],
+    list: Weights,
+    output: &[u32],
+    work: &[u32],
+) -> Result<Judgement, Refusal>
     ensures { Judged (given p f.now list output.now work.now) result }
 {
-    let modulus = modulus_refusal(p);
-    if modulus != 0 {
-        return refused(modulus);
-    }
-    let polynomial = polynomial_refusal(p, f);
-    if polynomial != 0 {
-        return refused(polynomial);
-    }
-    let weight = weight_refusal(f.len(), list);
-    if weight != 0 {
-        return refused(weight);
-    }
+    check_modulus(p)?;
+    check_polynomial(p, f)?;
+    check_weights(f.len(), list)?;
     let placements = list.placements(f.len() as u8);
-    let number = number_refusal(p, placements);
-    if number != 0 {
-        return refused(number);
-    }
-    let n = placements as usize;
-    Judgement {
-        code: room_refusal(n, output.len(), work.len()),
-        count: n,
+    check_number(p, placements)?;
+    let count = placements as usize;
+    check_room(count, output.len(), work.len())?;
+    Ok(Judgement {
+        count,
         product: list.factorials(),
-    }
+    })
 }
 
 // Whether some number from 1 to n is 0 modulo p.
-fn has_zero(p: u32, n: usize) -> bool
-    requires { (0 < p) × (n ≤ most_placements) }
-    ensures { result ≡ some_below (λ i. eqb (suc i % p) 0) n }
+fn has_zero(p: Modulus, n: usize) -> bool
+    requires { n ≤ most_placements }
+    ensures { result ≡ some_below (λ i. eqb (suc i % p.value) 0) n }
 {
-    let m = p as usize;
-    let mut k = 0;
-    while k < n {
-        k += 1;
-        if k % m == 0 {
-            return true;
-        }
-    }
-    false
+    (1..=n as u32).any(|k| k % p.value == 0)
 }
 
 // Row 16.
-pub fn divisor_refusal(p: u32, product: u32, n: usize) -> u32
-    requires { (0 < p) × (n ≤ most_placements) }
-    ensures { result ≡ first (divisor_checks p product n) }
+#[tactic(auto, unfolding(crate::specs::Refusals::divisor_checks, checks::specs::Checks::first))]
+pub fn check_divisors(p: Modulus, product: u32, n: usize) -> Result<(), Refusal>
+    requires { n ≤ most_placements }
+    ensures { code result ≡ first (divisor_checks p.value product n) }
 {
-    if product % p == 0 {
-        return 16;
+    if product % p.value == 0 || has_zero(p, n) {
+        return Err(Refusal::ZeroDivisor);
     }
-    if has_zero(p, n) { 16 } else { 0 }
+    Ok(())
 }

@@ -10,7 +10,7 @@ use Rattle.definition.specs.Cost.{lists}
 use Rattle.refusals.specs.Refusals.{Call, weights, zero_or_above, some_bad, list_checks, list_refusal, refusal}
 use Rattle.refusals.specs.Refusals.{modulus_checks, degree_checks, coefficient_checks, weight_checks, number_checks, room_checks, divisor_checks, job_checks, call_checks, checks}
 use Rattle.refusals.proofs.Reading.{weight_good, row_exactly, not_refused}
-use Rattle.resolvents.specs.declared.Cost.{Cost}
+use Rattle.resolvents.specs.Results.{Cost}
 use Rattle.resolvents.specs.Promise.{Exit, Promise}
 use Rattle.resolvents.specs.Cost.{Told}
 

@@ -3,3 +3,4 @@ pub mod Decided
 pub mod Wrong
 pub mod Costs
 pub mod Kept
+pub mod Told

@@ -3,7 +3,7 @@ use Rattle.std.specs.Prelude.{◌≡◌, ℕ, ℤ, List}
 use Rattle.checks.specs.Checks.{Answers}
 use Rattle.definition.specs.Cost.{lists}
 use Rattle.refusals.specs.Refusals.{list_refusal}
-use Rattle.resolvents.specs.declared.Cost.{Cost}
+use Rattle.resolvents.specs.Results.{Cost}
 
 -- of r weights L: the number of row 6 or 8 and no lists, or 0 and the number of lists
 abbrev pub Told : ℕ → List ℤ → Cost → Type 0

@@ -1,3 +1,4 @@
+pub mod Results
 pub mod Promise
 pub mod Cleared
 pub mod Cost

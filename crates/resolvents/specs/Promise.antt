@@ -4,7 +4,7 @@ use Rattle.checks.specs.Checks.{Answers}
 use Rattle.definition.specs.Cost.{lists}
 use Rattle.refusals.specs.Refusals.{Call, weights, refusal}
 use Rattle.refusals.specs.Success.{Untouched, Success}
-use Rattle.resolvents.specs.declared.Outcome.{Outcome}
+use Rattle.resolvents.specs.Results.{Outcome}
 
 -- what a call leaves behind: its result, and the words of the slices that were lent
 pub record Exit : Type 0 where

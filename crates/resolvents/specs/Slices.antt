@@ -14,7 +14,7 @@ use Rattle.refusals.specs.Refusals.{Call, weights, modulus_checks, degree_checks
 use Rattle.refusals.proofs.Reading.{above_taken, not_refused}
 use Rattle.refusals.specs.Judged.{given}
 use Rattle.refusals.specs.Success.{Success}
-use Rattle.resolvents.specs.declared.Cost.{Cost}
+use Rattle.resolvents.specs.Results.{Cost}
 use Rattle.resolvents.specs.Promise.{Exit, Promise}
 use Rattle.resolvents.specs.Cost.{Told}
 

@@ -1,3 +1,4 @@
+pub mod Front
 pub mod Crossed
 pub mod Terms
 pub mod Inner

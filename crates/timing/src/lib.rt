@@ -5,6 +5,11 @@ ghost use Rattle.std.specs.Prelude.{◌≡◌, ◌≤◌, length};
 ghost use Rattle.halves.specs.Halves.{Halved, Widened, Halves, halves_sum};
 ghost use Rattle.residues.specs.Promises.{InRange, inner_sum};
 
+use residues::Modulus;
+
+// With so many terms the sums of an inner product fit 64 bits.
+const MOST_TERMS: usize = 1 << 31;
+
 // The inner product, and 0 where its words do not have the range.
 #[unsafe(no_mangle)]
 pub extern "C" fn linres_inner_product(
@@ -17,22 +22,12 @@ pub extern "C" fn linres_inner_product(
     ensures value { InRange p a.now b.now terms last → result ≡ inner_sum p a.now b.now terms last }
     ensures value_2 { (InRange p a.now b.now terms last → ⊥) → result ≡ 0 }
 {
-    if p == 0 {
-        return 0;
+    let within = terms <= a.len() && last < b.len() && terms <= last + 1;
+    if p != 0 && within && terms <= MOST_TERMS {
+        Modulus::of(p).inner_product(a, b, terms, last)
+    } else {
+        0
     }
-    if a.len() < terms {
-        return 0;
-    }
-    if 2147483648 < terms {
-        return 0;
-    }
-    if b.len() <= last {
-        return 0;
-    }
-    if last + 1 < terms {
-        return 0;
-    }
-    residues::inner_product(p, a, b, terms, last)
 }
 
 // The inner product in halves, and what it works on. C must keep to what each asks.
@@ -65,5 +60,5 @@ pub extern "C" fn linres_inner_halves(
     requires { Halves p low.now high.now from wide.now at terms }
     ensures { result ≡ halves_sum p low.now high.now from wide.now at terms }
 {
-    halves::inner_halves(p, low, high, from, wide, at, terms)
+    halves::inner_halves(Modulus::of(p), low, high, from, wide, at, terms)
 }

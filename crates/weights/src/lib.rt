@@ -9,7 +9,8 @@ ghost use Rattle.placements.specs.Placements.{count, factorials, placed};
 ghost use Rattle.limits.specs.Limits.{capacity};
 ghost use Rattle.weights.specs.Lists.{of_slice, listed, among, without_at, with_sum_at};
 
-// The first len places hold the weights; places after them count for nothing.
+// The first len places hold the weights; places after them count for nothing. The room is fixed, with the count beside it, since a list goes
+// by value without a heap, and one with a count above the capacity is a list too, which a job is refused for.
 #[derive(Clone, Copy)]
 pub struct Weights {
     pub places: [i32; limits::CAPACITY],
@@ -22,15 +23,9 @@ impl Weights {
         ensures { result ≡ of_slice weights.now }
     {
         let len = weights.len();
+        let placed = len.min(limits::CAPACITY);
         let mut places = [0i32; limits::CAPACITY];
-        let mut i = 0;
-        while i < len {
-            if i == limits::CAPACITY {
-                return Weights { places, len };
-            }
-            places[i] = weights[i];
-            i += 1;
-        }
+        places[..placed].copy_from_slice(&weights[..placed]);
         Weights { places, len }
     }
 
@@ -38,87 +33,54 @@ impl Weights {
     fn has_place(self, at: usize) -> bool
         ensures { result ≡ among self at }
     {
-        let n = self.len;
-        if n > limits::CAPACITY {
-            return false;
-        }
-        at < n
+        self.len <= limits::CAPACITY && at < self.len
     }
 
     // The list without the weight at a place.
+    #[tactic(auto, using(crate::specs::Laws::there_among))]
     pub fn without(self, at: usize) -> Weights
         ensures { result ≡ without_at self at }
     {
         if !self.has_place(at) {
             return self;
         }
-        let n = self.len;
+        let len = self.len - 1;
         let mut places = self.places;
-        let mut i = at;
-        while i + 1 < n {
-            places[i] = places[i + 1];
-            i += 1;
-        }
-        places[i] = 0;
-        Weights {
-            places: places,
-            len: i,
-        }
+        places.copy_within(at + 1..self.len, at);
+        places[len] = 0;
+        Weights { places, len }
     }
 
     // The list with e added to the weight at a place.
-    #[tactic(auto, using(crate::proofs::Sum::kept_low, crate::proofs::Sum::kept_high))]
+    #[tactic(auto, using(crate::specs::Laws::there_among))]
     pub fn with_sum(mut self, at: usize, e: i32) -> Weights
         ensures { result ≡ with_sum_at self at e }
     {
         if !self.has_place(at) {
             return self;
         }
-        let weight = self.places[at];
-        let sum = weight as i64 + e as i64;
-        if sum < -2147483648 {
-            return self;
+        if let Some(sum) = self.places[at].checked_add(e) {
+            self.places[at] = sum;
         }
-        if sum > 2147483647 {
-            return self;
-        }
-        self.places[at] = sum as i32;
         self
     }
 
-    // How many weights the list holds: r, or all places where r is above the capacity.
-    fn held(self) -> usize
-        ensures { (result ≡ length (listed self)) × (result ≤ capacity) }
+    // The weights that the list holds: the first r places, or all where r is above the capacity.
+    fn listed(&self) -> &[i32]
+        ensures first_r { result.now ≡ listed self.now }
+        ensures few { length result.now ≤ capacity }
     {
-        let n = self.len;
-        let inside = n < limits::CAPACITY;
-        if inside { n } else { limits::CAPACITY }
-    }
-
-    // The weight at a place, 0 past the last.
-    fn weight_at(self, at: usize) -> i32
-        ensures { result ≡ get_or (listed self) at (pos 0) }
-    {
-        if self.held() <= at {
-            return 0;
-        }
-        self.places[at]
+        &self.places[..self.len.min(limits::CAPACITY)]
     }
 
     // How often the weight at a place occurs from another place on.
     pub fn copies(self, at: usize, from: usize) -> u32
         ensures { result ≡ count ℤ_eq (get_or (listed self) at (pos 0)) (drop from (listed self)) }
     {
-        let mut i = self.held();
-        let weight = self.weight_at(at);
-        let mut copies = 0;
-        while i > from {
-            i -= 1;
-            if self.places[i] == weight {
-                copies += 1;
-            }
-        }
-        copies
+        let listed = self.listed();
+        let weight = listed.get(at).copied().unwrap_or(0);
+        let from = from.min(listed.len());
+        listed[from..].iter().filter(|&w| w == &weight).count() as u32
     }
 
     // The product of m! over the different weights, m being how often each occurs: from the last weight to the first, one that
@@ -127,9 +89,7 @@ impl Weights {
         ensures { result ≡ factorials ℤ_eq (listed self) }
     {
         let mut product = 1;
-        let mut at = self.held();
-        while at > 0 {
-            at -= 1;
+        for at in (0..self.listed().len()).rev() {
             product *= self.copies(at, at + 1) + 1;
         }
         product
@@ -139,7 +99,7 @@ impl Weights {
     pub fn placements(self, n: u8) -> u64
         ensures { result ≡ placed n (listed self) }
     {
-        falling_product(n as u64, self.held() as u64) / self.factorials() as u64
+        falling_product(n as u64, self.listed().len() as u64) / self.factorials() as u64
     }
 }
 
@@ -153,10 +113,8 @@ fn falling_product(n: u64, r: u64) -> u64
         return 0;
     }
     let mut product = 1;
-    let mut m = n - r;
-    while m < n {
-        m += 1;
-        product *= m;
+    for factor in n - r + 1..=n {
+        product *= factor;
     }
     product
 }

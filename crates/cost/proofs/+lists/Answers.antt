@@ -4,47 +4,53 @@ use mir.Val.{to_z, of_z}
 use mir.ValLaws.{to_z-of_z}
 use Rattle.limits.specs.Limits.{capacity}
 use Rattle.weights.specs.declared.Weights.{Weights}
-use Rattle.weights.specs.Lists.{listed}
+use Rattle.weights.specs.Lists.{listed, with_sum_at}
 use Rattle.weights.specs.Laws.{listed_none}
 use Rattle.weights.specs.Rests.{Rest, rest_facts}
 use Rattle.definition.specs.Cost.{lists}
 use Rattle.definition.proofs.Merge.{lists_number}
-use Rattle.cost.specs.Walk.{New, new_here, old_here, walked, walked_none, walked_new, walked_old, walked_list, walked_fits}
+use Rattle.cost.specs.Walk.{new_here, old_here, walked, walked_none, walked_new, walked_old, walked_list, walked_fits}
 use Rattle.cost.proofs.+lists.Goals as goal
-use Rattle.cost.proofs.+lists.Goals.{After-without-rest, After-lists-number, After-copies-in-loop-next, After-lists-number-then-copies}
+use Rattle.cost.proofs.+lists.Goals.{After-without-rest, After-lists-number, After-copies-in-loop-j, then-copies, else-copies}
+
+-- the first weight, as the code reads it
+abbrev first : Weights → ℤ
+first list = to_z w32 (of_z w32 (get_or list.places 0 (pos 0)))
 
 module _ {t : ℕ} where
   -- the rest is made
   module _ (c : After-without-rest t) where
-    abbrev rest : Weights
-    rest = c.without-rest.result
+    rest_at : Rest c.args.list c.without-rest.result (first c.args.list)
+    rest_at = rest_facts _ (search rules) c.requires _ _ (to_z-of_z w32 _ (record { sfits = omega arith })) c.without-rest.ensures
 
-    abbrev first : ℤ
-    first = to_z w32 (of_z w32 (get_or c.args.list.places 0 (pos 0)))
-
-    rest_at : Rest c.args.list rest first
-    rest_at = rest_facts c.args.list (search rules) c.requires rest first (to_z-of_z w32 _ (record { sfits = omega arith })) c.without-rest.ensures
-
-    fewer : rest.len < t
+    fewer : c.without-rest.result.len < t
     fewer = omega (arith, rest_at.shorter, c.decreases)
 
-    few : length (listed rest) < capacity
+    few : length (listed c.without-rest.result) < capacity
     few = omega (arith, rest_at.shorter, rest_at.long, c.requires.short)
 
+  -- no collision is counted yet
+  none_at : (c : After-lists-number t) → 1 + c.lists-number.result ≡ walked (first c.args.list) (listed c.without-rest.result) 0
+  none_at c = ap (λ n. 1 + n) c.lists-number.ensures ∙ walked_none _ _
+
   -- at a place of the rest, when its copies are counted
-  module _ (c : After-copies-in-loop-next t) where
+  module _ (c : After-copies-in-loop-j t) (r : Rest c.args.list c.without-rest.result (first c.args.list)) where
     abbrev M : List ℤ
     M = listed c.without-rest.result
 
-    there : length M ≡ c.without-rest.result.len → c.loop-next.next < length M
-    there long = omega (arith, long, c.loop-next-test.true)
+    there : c.loop-j.j < length M
+    there = omega (arith, r.long, c.loop-j-test.true)
 
-    -- its weight stands there for the first time, or not: as many equal ones stand from there on as in the whole rest, or fewer
-    new_at : c.copies.result ≡ c.copies-in-loop-next.result → New M c.loop-next.next
-    new_at q = new_here M c.loop-next.next (sym c.copies.ensures ∙ q ∙ c.copies-in-loop-next.ensures)
+    -- as many equal weights stand from there on as in the whole rest, so its weight stands there first: one collision more
+    more_at : c.copies.result ≡ c.copies-in-loop-j.result → (met : Weights) {n : ℕ} → met ≡ with_sum_at c.without-rest.result c.loop-j.j (first c.args.list)
+        → n ≡ lists (listed met) → c.loop-j.number + n ≡ walked (first c.args.list) M (c.loop-j.j + 1)
+    more_at q met e k =
+        ap₂ ◌+◌ c.loop-j.invariant (k ∙ ap lists (r.meets c.loop-j.j met c.loop-j-test.true e).sum)
+        ∙ walked_new _ _ c.loop-j.j there (new_here M c.loop-j.j (sym c.copies.ensures ∙ q ∙ c.copies-in-loop-j.ensures))
 
-    old_at : ¬ (c.copies.result ≡ c.copies-in-loop-next.result) → ¬ New M c.loop-next.next
-    old_at n = old_here M c.loop-next.next (λ q. n (c.copies.ensures ∙ q ∙ sym c.copies-in-loop-next.ensures))
+    -- fewer do, so it stood before
+    same_at : ¬ (c.copies.result ≡ c.copies-in-loop-j.result) → c.loop-j.number ≡ walked (first c.args.list) M (c.loop-j.j + 1)
+    same_at n = c.loop-j.invariant ∙ walked_old _ _ c.loop-j.j there (old_here M c.loop-j.j (λ q. n (c.copies.ensures ∙ q ∙ sym c.copies-in-loop-j.ensures)))
 
 pub returns-then-list-eq0 : goal.returns-then-list-eq0
 returns-then-list-eq0 t c = sym (ap lists (listed_none c.args.list c.if-list-eq0.true) ∙ lists_number.empty)
@@ -52,56 +58,37 @@ returns-then-list-eq0 t c = sym (ap lists (listed_none c.args.list c.if-list-eq0
 pub lists-number-requires : goal.lists-number-requires
 lists-number-requires t c = (fewer c, (rest_at c).bounded)
 
--- no collision is copied yet
-none_at : {t : ℕ} (c : After-lists-number t) → 1 + c.lists-number.result ≡ walked (to_z w32 (of_z w32 (get_or c.args.list.places 0 (pos 0)))) (listed c.without-rest.result) 0
-none_at c = ap (λ n. 1 + n) c.lists-number.ensures ∙ walked_none _ _
-
 pub overflow_add-number : goal.overflow_add-number
 overflow_add-number t c =
     let b = (goal.at.overflow_add-number t c).After-without-rest in
     record { fits = walked_fits _ _ 0 _ (none_at c) (few b) (omega arith) }
 
-pub loop-next-init : goal.loop-next-init
-loop-next-init t c = (omega arith, none_at c)
+pub loop-j-init : goal.loop-j-init
+loop-j-init t c = none_at c
 
 pub lists-number-requires-then-copies : goal.lists-number-requires-then-copies
 lists-number-requires-then-copies t c =
     let b = (goal.at.lists-number-requires-then-copies t c).After-without-rest in
-    let d = (rest_at b).meets c.loop-next.next _ c.loop-next-test.true c.with_sum.ensures in
+    let d = (rest_at b).meets c.loop-j.j _ c.loop-j-test.true c.with_sum.ensures in
     (omega (arith, d.len, fewer b), d.bounded)
-
--- one collision more
-more_at : {t : ℕ} (c : After-lists-number-then-copies t) → Rest c.args.list c.without-rest.result (to_z w32 (of_z w32 (get_or c.args.list.places 0 (pos 0))))
-    → New (listed c.without-rest.result) c.loop-next.next → c.loop-next.next < length (listed c.without-rest.result)
-    → c.loop-next.number + c.lists-number-then-copies.result
-    ≡ walked (to_z w32 (of_z w32 (get_or c.args.list.places 0 (pos 0)))) (listed c.without-rest.result) (c.loop-next.next + 1)
-more_at c r new there =
-    ap₂ (λ x y. x + y)
-    c.loop-next.invariant.1
-    (c.lists-number-then-copies.ensures ∙ ap lists (r.meets c.loop-next.next _ c.loop-next-test.true c.with_sum.ensures).sum)
-    ∙ walked_new _ _ c.loop-next.next there new
 
 pub overflow_add-number-then-copies : goal.overflow_add-number-then-copies
 overflow_add-number-then-copies t c =
     let b = (goal.at.overflow_add-number-then-copies t c).After-without-rest in
-    let d = (goal.at.overflow_add-number-then-copies t c).After-copies-in-loop-next in
-    let h = there d (rest_at b).long in
-    record { fits = walked_fits _ _ (c.loop-next.next + 1) _ (more_at c (rest_at b) (new_at d c.if-copies.true) h) (few b) (omega (arith, h)) }
+    let d = (goal.at.overflow_add-number-then-copies t c).After-copies-in-loop-j in
+    let more = more_at d (rest_at b) c.if-copies.true _ c.with_sum.ensures c.lists-number-then-copies.ensures in
+    record { fits = walked_fits _ _ (c.loop-j.j + 1) _ more (few b) (omega (arith, there d (rest_at b))) }
 
-pub loop-next-preserved-then-copies : goal.loop-next-preserved-then-copies
-loop-next-preserved-then-copies t c =
-    let b = (goal.at.loop-next-preserved-then-copies t c).After-without-rest in
-    let d = (goal.at.loop-next-preserved-then-copies t c).After-copies-in-loop-next in
-    let h = there d (rest_at b).long in
-    (omega (arith, c.loop-next-test.true), more_at c (rest_at b) (new_at d c.if-copies.true) h)
-
-pub loop-next-preserved : goal.loop-next-preserved
-loop-next-preserved t c =
-    let b = (goal.at.loop-next-preserved t c).After-without-rest in
-    let d = (goal.at.loop-next-preserved t c).After-copies-in-loop-next in
-    (omega (arith, c.loop-next-test.true), c.loop-next.invariant.1 ∙ walked_old _ _ c.loop-next.next (there d (rest_at b).long) (old_at d c.if-copies.false))
+pub loop-j-preserved : goal.loop-j-preserved
+loop-j-preserved t c =
+    let r = rest_at (goal.at.loop-j-preserved t c).After-without-rest in
+    let d = (goal.at.loop-j-preserved t c).After-copies-in-loop-j in
+    elim c.if-copies.branch [
+      | then-copies w ↦ w.number-is ∙ more_at d r w.if-copies.true _ w.with_sum.ensures w.lists-number-then-copies.ensures
+      | else-copies w ↦ w.number-is ∙ same_at d r w.if-copies.false
+    ]
 
 pub returns : goal.returns
 returns t c =
-    let b = (goal.at.returns t c).After-without-rest in
-    walked_list c.args.list c.without-rest.result (rest_at b) c.loop-next.invariant.0 c.loop-next-test.false c.loop-next.invariant.1
+    let r = rest_at (goal.at.returns t c).After-without-rest in
+    walked_list c.args.list c.without-rest.result r c.loop-j.auto.j-end c.loop-j-test.false c.loop-j.invariant

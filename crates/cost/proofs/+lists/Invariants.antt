@@ -1,7 +1,7 @@
 -- The number of weights falls. A list without weights is one list. For another the walk over the places of its rest adds one number where a
 -- weight stands for the first time, that is where as many equal ones stand from there on as in the whole rest; at the end it has met
 -- every different weight once.
-use Rattle.std.proofs.Common.{◌≡◌, ◌-◌, ◌≤◌}
+use Rattle.std.proofs.Common.{◌≡◌}
 use Rattle.weights.specs.Lists.{listed}
 use Rattle.cost.specs.Walk.{walked}
 use Rattle.cost.proofs.+lists.Given as goal
@@ -9,8 +9,5 @@ use Rattle.cost.proofs.+lists.Given as goal
 abbrev pub decreases-lists : goal.decreases-lists
 decreases-lists l = l.list.len
 
-abbrev pub invariant-loop-next : goal.invariant-loop-next
-invariant-loop-next l = (l.next ≤ l.rest.len) × (l.number ≡ walked l.first (listed l.rest) l.next)
-
-abbrev pub decreases-loop-next : goal.decreases-loop-next
-decreases-loop-next l = l.rest.len - l.next
+abbrev pub invariant-loop-j : goal.invariant-loop-j
+invariant-loop-j l = l.number ≡ walked l.first (listed l.rest) l.j

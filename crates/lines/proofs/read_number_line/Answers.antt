@@ -1,33 +1,17 @@
 -- Each return is one case of the scanner: no key, no number, no line feed, or the number.
-use Rattle.std.proofs.Common.{sym, arith}
+use Rattle.std.proofs.Common.{◌≡◌, ◌+◌, sym, ◌∙◌, arith}
+use Rattle.decimal.specs.Scan.{got, number}
+use Rattle.lines.specs.Scan.{one_line}
 use Rattle.lines.proofs.Steps as steps
 use Rattle.lines.proofs.read_number_line.Goals as goal
-use Rattle.lines.proofs.read_number_line.Goals.{After-byte_at}
 
-found : (c : After-byte_at) → let a = c.args in steps.Keyed a.key.now a.text.now c.in-Value.v c.in-Value.c.at c.byte_at.result
-found c = record { found = c.if-has_key.ensures; value = sym c.in-Value.ensures; byte = c.byte_at.ensures }
-
-pub slice_bounds-rest-count : goal.slice_bounds-rest-count
-slice_bounds-rest-count c = search steps.key_fits
-
-pub slice_bounds-rest-start : goal.slice_bounds-rest-start
-slice_bounds-rest-start c = search steps.key_fits
-
-pub returns-in_default : goal.returns-in_default
-returns-in_default c = search steps.line_bad
-
-pub returns-then-byte_at-ne10 : goal.returns-then-byte_at-ne10
-returns-then-byte_at-ne10 c = steps.line_open (found (goal.at.returns-then-byte_at-ne10 c).After-byte_at) c.if-byte_at-ne10.true
-
-pub overflow_add-result : goal.overflow_add-result
-overflow_add-result c = omega (arith, steps.line_fits (found (goal.at.overflow_add-result c).After-byte_at) (omega arith))
-
-pub overflow_add-result-then-has_key : goal.overflow_add-result-then-has_key
-overflow_add-result-then-has_key c =
-    omega (arith, steps.line_fits (found (goal.at.overflow_add-result-then-has_key c).After-byte_at) (omega arith))
-
-pub returns-then-has_key : goal.returns-then-has_key
-returns-then-has_key c = steps.line_good (found (goal.at.returns-then-has_key c).After-byte_at) (omega arith)
+pub returns-in_err-rest : goal.returns-in_err-rest
+returns-in_err-rest c = rw c.from_residual.ensures (steps.no_key (one_line number) c.args.key.now c.args.text.now c.in_err-rest.ensures.cases)
 
 pub returns : goal.returns
-returns c = search steps.line_no_key
+returns c =
+    let key = c.in_ok-rest.ensures.cases in
+    let n = c.in_ok-v in
+    let end : c.byte_at.result ≡ 10 = omega arith in
+    let line : got n.v (n.at + 1) ≡ one_line number c.in_ok-rest.rest.now = steps.ended number _ n.ensures (sym c.byte_at.ensures ∙ end) in
+    steps.found (one_line number) c.args.key.now c.args.text.now key.0 _ key.1 _ _ _ line (omega arith)

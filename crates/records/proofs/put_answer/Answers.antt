@@ -13,9 +13,9 @@ pub write_mark-b-requires : goal.write_mark-b-requires
 unfolding answer_text bytes
 write_mark-b-requires c = search room_second
 
-pub write_numbers_line-requires : goal.write_numbers_line-requires
+pub write_list_line-requires : goal.write_list_line-requires
 unfolding answer_text bytes
-write_numbers_line-requires c = search room_third
+write_list_line-requires c = search room_third
 
 pub returns : goal.returns
 unfolding answer_text bytes

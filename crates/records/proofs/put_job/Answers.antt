@@ -9,13 +9,13 @@ pub write_head-a-requires : goal.write_head-a-requires
 unfolding job_text bytes
 write_head-a-requires c = (omega (arith, c.requires.0.coeffs.at_most), search room_first)
 
-pub write_numbers_line-b-requires : goal.write_numbers_line-b-requires
+pub write_list_line-b-requires : goal.write_list_line-b-requires
 unfolding job_text bytes
-write_numbers_line-b-requires c = search room_second
+write_list_line-b-requires c = search room_second
 
-pub write_signeds_line-requires : goal.write_signeds_line-requires
+pub write_list_line-requires : goal.write_list_line-requires
 unfolding job_text bytes
-write_signeds_line-requires c = (search rules, search room_third)
+write_list_line-requires c = (search rules, search room_third)
 
 pub returns : goal.returns
 unfolding job_text bytes

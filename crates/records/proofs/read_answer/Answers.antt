@@ -1,15 +1,25 @@
--- The slice is tested, then the text is read into an array of the function's own. A refusal has a count of zero, so what is copied is
--- nothing.
-use Rattle.std.proofs.Common.{arith}
-use Rattle.records.specs.Promises.{answer_kind}
+-- The slice is tested, then the text is read into an array of the function's own. What is found there goes to the front of the slice;
+-- where no answer is found, nothing does.
+use Rattle.std.proofs.Common.{◌≤◌, sym, length, arith, length-take-le}
+use Rattle.std.proofs.lemmas.Result.{err_from_is_err_and}
 use Rattle.records.proofs.Outcomes as outcomes
 use Rattle.records.proofs.read_answer.Goals as goal
+use Rattle.records.proofs.read_answer.Goals.{In_ok-head}
 
-pub returns-then-coeffs-lt-MOST_PLACEMENTS : goal.returns-then-coeffs-lt-MOST_PLACEMENTS
-returns-then-coeffs-lt-MOST_PLACEMENTS c = outcomes.too_short answer_kind (λ room. omega arith) c.refused_answer.ensures
+-- the array holds as many numbers as the answer says
+count : (c : In_ok-head) → c.in_ok-head.head.degree ≤ length c.parse_answer-found.new.cs
+count c = outcomes.answer_count c.args.text.now c.ok_or.ensures.value c.in_ok-head.was c.parse_answer-found.ensures
 
-pub copy_words-requires : goal.copy_words-requires
-copy_words-requires c = omega (arith, outcomes.answer_count _ c.parse_answer-r.ensures)
+pub returns-in_err-head : goal.returns-in_err-head
+returns-in_err-head c =
+    let (x, e, f) = err_from_is_err_and c.from_residual.result c.from_residual.ensures.1 in
+    outcomes.answer_refused c.args.text.now c.ok_or.ensures.value c.in_err-head.was e f (omega arith) c.parse_answer-found.ensures
+
+pub slice_bounds-cs-end : goal.slice_bounds-cs-end
+slice_bounds-cs-end c = count c
+
+pub slice_bounds-copy_over-end : goal.slice_bounds-copy_over-end
+slice_bounds-copy_over-end c = sym (length-take-le _ _ (count (goal.at.slice_bounds-copy_over-end c).In_ok-head))
 
 pub returns : goal.returns
-returns c = search outcomes.answer_copied
+returns c = outcomes.answer_copied c.args.text.now c.ok_or.ensures.value c.in_ok-head.was c.parse_answer-found.ensures (omega arith) c.copy_over.ensures

@@ -1,16 +1,13 @@
-use Rattle.std.proofs.Common.{arith, le-leb}
-use Rattle.std.proofs.lemmas.Bool.{lt-leb}
-use Rattle.refusals.proofs.Search.{sought_none, sought_more, sought_found, sought_all}
+-- The coefficients are searched from the first, and the table's test asks of each place below their number: a coefficient that is found
+-- stands at a place that passes, and where none is found no place does.
+use Rattle.std.proofs.Common.{◌≡◌, rules, ℕ, true, false, leb, ◌<◌, length, get_or}
+use Rattle.std.proofs.iter.runs.Made.{chains}
+use Rattle.refusals.proofs.Search.{searched}
 use Rattle.refusals.proofs.has_large.Goals as goal
 
-pub loop-i-init : goal.loop-i-init
-loop-i-init c = sought_none _ _
-
-pub returns-then-f-i : goal.returns-then-f-i
-returns-then-f-i c = sought_found _ _ c.loop-i.i (omega arith) (le-leb _ _ c.if-f-i.true)
-
-pub loop-i-preserved : goal.loop-i-preserved
-loop-i-preserved c = sought_more _ _ c.loop-i.i (omega arith) (lt-leb _ _ c.if-f-i.false) c.loop-i.invariant
-
 pub returns : goal.returns
-returns c = sought_all _ _ c.loop-i.i (omega arith) c.loop-i.invariant
+returns c =
+    let f = c.args.f.now in
+    let some : c.any.result ≡ true → (k : ℕ) × (k < length f) × (leb c.args.p (get_or f k 0) ≡ true) = search (rules, chains) in
+    let none : c.any.result ≡ false → (k : ℕ) → k < length f → leb c.args.p (get_or f k 0) ≡ false = search (rules, chains) in
+    searched _ _ _ some none

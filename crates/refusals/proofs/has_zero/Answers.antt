@@ -1,22 +1,15 @@
-use Rattle.std.proofs.Math.Path.{◌≡◌, ◌∙◌}
-use Rattle.std.proofs.Common.{sym, ap, add-one, arith}
-use Prim.Native.Nat.{ℕ, suc, ◌+◌, ◌%◌}
-use borrow.Author.Tests.{eq-eqb, ne_eqb}
-use Rattle.refusals.proofs.Search.{sought_none, sought_more, sought_found, sought_all}
+-- The numbers from 1 to n are searched, and the table's test asks of each place below n: at the place k it tests the number k + 1, so a
+-- number that is found stands at a place that passes, and where none is found no place does.
+use Rattle.std.proofs.Common.{◌≡◌, rules, arith, refl, ℕ, List, [], suc, true, false, eqb, ◌%◌, ◌<◌, ◌≤◌, get_or}
+use Rattle.std.proofs.iter.runs.Sources.{ranges}
+use Rattle.refusals.proofs.Search.{searched}
 use Rattle.refusals.proofs.has_zero.Goals as goal
 
--- k + 1 is divided where the code divides it
-next : (p k : ℕ) → (k + 1) % p ≡ suc k % p
-next p k = ap (λ x. x % p) (add-one k)
-
-pub loop-k-init : goal.loop-k-init
-loop-k-init c = sought_none _ _
-
-pub returns-then-k-m-eq0 : goal.returns-then-k-m-eq0
-returns-then-k-m-eq0 c = sought_found _ _ c.loop-k.k (omega arith) (eq-eqb _ 0 (sym (next _ c.loop-k.k) ∙ c.if-k-m-eq0.true))
-
-pub loop-k-preserved : goal.loop-k-preserved
-loop-k-preserved c = sought_more _ _ c.loop-k.k (omega arith) (ne_eqb _ 0 (λ e. c.if-k-m-eq0.false (next _ c.loop-k.k ∙ e))) c.loop-k.invariant
+-- each number failed the test: `ranges` tells of the number k where a list is read at k, whatever the list
+none : (c : goal.After-any) → c.any.result ≡ false → (k : ℕ) → 1 ≤ k → k ≤ c.args.n → (xs : List ℕ) → get_or xs k 0 ≡ get_or xs k 0 → eqb (k % c.args.p.value) 0 ≡ false
+none c e k low high xs read = search (rules, ranges)
 
 pub returns : goal.returns
-returns c = sought_all _ _ c.loop-k.k (omega arith) c.loop-k.invariant
+returns c =
+    let some : c.any.result ≡ true → (k : ℕ) × (k < c.args.n) × (eqb (suc k % c.args.p.value) 0 ≡ true) = search (rules, ranges) in
+    searched _ _ _ some (λ e k h. none c e (suc k) (omega arith) (omega arith) [] refl)

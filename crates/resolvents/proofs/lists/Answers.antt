@@ -1,36 +1,35 @@
 -- The rows of the list alone are those of weights in as many positions (`alone`), and a list that breaks none of them has the list's
 -- rule, which is all that the number asks for.
-use Rattle.std.proofs.Common.{◌≡◌, refl, sym, ◌∙◌, rules, length}
+use Rattle.std.proofs.Common.{◌≡◌, refl, sym, ◌∙◌, rules, arith, length, ℕ, List, Err}
+use Rattle.std.specs.Prelude.{ℤ, Result}
 use Rattle.limits.specs.Limits.{capacity}
-use Rattle.weights.specs.Lists.{listed}
-use Rattle.weights.specs.Sizes.{Bounded, job_bounded}
-use Rattle.refusals.specs.Refusals.{list_refusal}
+use Rattle.checks.specs.Checks.{first}
+use Rattle.checks.specs.declared.Refusal.{Refusal}
+use Rattle.checks.specs.Refusal.{number, number_positive}
+use Rattle.weights.specs.Sizes.{job_bounded}
+use Rattle.refusals.specs.Refusals.{weight_checks}
 use Rattle.refusals.proofs.Reading.{weight_good}
+use Rattle.resolvents.specs.Results.{cost}
+use Rattle.resolvents.specs.Cost.{Told}
 use Rattle.resolvents.proofs.Costs.{alone}
 use Rattle.resolvents.proofs.lists.Goals as goal
-use Rattle.resolvents.proofs.lists.Goals.{After-weight_refusal-row, Else-row-ne0}
 
--- the rows of the list alone
-code_is : (c : After-weight_refusal-row) → let list = c.args.list in c.weight_refusal-row.result ≡ list_refusal list.len (listed list)
-code_is c = c.weight_refusal-row.ensures ∙ alone _ _
+-- a list that one of its rows refuses
+refused : (r : ℕ) (L : List ℤ) (x : Refusal) {t : Result ℕ Refusal} → t ≡ Err x → number x ≡ first (weight_checks r r L) → Told r L (cost t)
+refused r L x same e =
+    let told = e ∙ alone r L in
+    rw same (record { code = told; refused = λ n. refl; done = λ z. absurd (omega (arith, number_positive x, told, z)) })
 
--- a list that they leave
-bounded : (c : Else-row-ne0) → Bounded c.args.list
-bounded c =
-    let full : length c.args.list.places ≡ capacity = search rules in
-    let good = (weight_good _ _ _).0 (sym c.weight_refusal-row.ensures ∙ c.if-row-ne0.false) in
-    job_bounded c.args.list full good.high (λ i h. (good.each i h).1)
-
-pub returns-then-row-ne0 : goal.returns-then-row-ne0
-returns-then-row-ne0 c =
-    let e = code_is (goal.at.returns-then-row-ne0 c).After-weight_refusal-row in
-    record { code = e; refused = λ n. refl; done = λ z. absurd (c.if-row-ne0.true (e ∙ z)) }
+pub returns-in_err-check_weights : goal.returns-in_err-check_weights
+returns-in_err-check_weights c = refused _ _ _ (search rules) c.in_err-check_weights.ensures
 
 pub lists-requires : goal.lists-requires
-lists-requires c = bounded (goal.at.lists-requires c).Else-row-ne0
+lists-requires c =
+    let full : length c.args.list.places ≡ capacity = search rules in
+    let good = (weight_good _ _ _).0 (sym c.in_ok-check_weights.ensures) in
+    job_bounded c.args.list full good.high (λ i h. (good.each i h).1)
 
 pub returns : goal.returns
 returns c =
-    let z = c.if-row-ne0.false in
-    let e = code_is (goal.at.returns c).After-weight_refusal-row in
-    record { code = sym z ∙ e; refused = λ n. absurd (n (sym e ∙ z)); done = λ y. c.lists.ensures }
+    let told = c.in_ok-check_weights.ensures ∙ alone _ _ in
+    record { code = told; refused = λ n. absurd (n (sym told)); done = λ y. c.lists.ensures }

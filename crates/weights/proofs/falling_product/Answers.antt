@@ -1,4 +1,4 @@
-use Rattle.std.proofs.Common.{sym, arith, rules}
+use Rattle.std.proofs.Common.{sym, arith}
 use Rattle.weights.specs.Numbers.{falling_past}
 use Rattle.weights.proofs.Falling.{factors_none, factors_more, factors_fit, factors_all}
 use Rattle.weights.proofs.falling_product.Goals as goal
@@ -6,14 +6,14 @@ use Rattle.weights.proofs.falling_product.Goals as goal
 pub returns-then-n-r : goal.returns-then-n-r
 returns-then-n-r c = sym (falling_past _ _ c.if-n-r.true)
 
-pub loop-m-init : goal.loop-m-init
-loop-m-init c = factors_none c.if-n-r.false
+pub loop-factor-init : goal.loop-factor-init
+loop-factor-init c = factors_none c.if-n-r.false
 
 pub overflow_mul-product : goal.overflow_mul-product
-overflow_mul-product c = omega (arith, factors_fit c.loop-m.invariant (omega arith) (omega arith) (omega arith))
+overflow_mul-product c = omega (arith, factors_fit c.loop-factor.invariant c.loop-factor-test.true c.requires.n_bound c.requires.r_le_capacity)
 
-pub loop-m-preserved : goal.loop-m-preserved
-loop-m-preserved c = factors_more c.loop-m.invariant (search rules)
+pub loop-factor-preserved : goal.loop-factor-preserved
+loop-factor-preserved c = factors_more c.loop-factor.invariant c.loop-factor-test.true
 
-pub returns : goal.returns
-returns c = factors_all c.loop-m.invariant (search rules)
+pub returns-else-n-r-2 : goal.returns-else-n-r-2
+returns-else-n-r-2 c = factors_all (factors_more c.loop-factor.invariant c.loop-factor-test.true) (omega arith)

@@ -6,6 +6,3 @@ use Rattle.weights.proofs.Weights.factorials.Given as goal
 
 abbrev pub invariant-loop-at : goal.invariant-loop-at
 invariant-loop-at l = Multiplied (listed l.self) l.product l.at
-
-abbrev pub decreases-loop-at : goal.decreases-loop-at
-decreases-loop-at l = l.at

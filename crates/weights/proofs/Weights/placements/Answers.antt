@@ -11,4 +11,4 @@ nonzero_div-result c = rw c.factorials.ensures (factorials_positive ℤ_eq (list
 
 pub returns : goal.returns
 unfolding placed
-returns c = rw (c.falling_product.ensures, c.factorials.ensures, c.held.ensures.0)
+returns c = rw (c.falling_product.ensures, c.factorials.ensures, c.listed.ensures.first_r)
