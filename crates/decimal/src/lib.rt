@@ -1,4 +1,5 @@
-// Numbers in decimal, one by one and in lists: each has one spelling, which is read and written.
+// Numbers in decimal, one by one and in lists: each has one spelling, which is read and written. The writers are no `Display`, and take the
+// slice with a place in it, since each byte that they write and all that stays of the slice is promised (`Wrote`).
 #![tactic(auto)]
 
 ghost use Rattle.std.specs.Prelude.{◌≡◌, ◌+◌, ◌*◌, ◌≤◌, ℕ, List, [], ◌∷◌, leb, nat_abs, length, get_or, MatchOption, ◌<◌, ◌≢◌, ◌⊎◌};
@@ -241,6 +242,7 @@ pub fn read_list<T: Spelled>(part: &[u8], out: &mut [T]) -> Option<(usize, usize
     let mut at = 0;
     for (n, x) in out.iter_mut().enumerate() {
         let rest = &part[at..];
+        // No `?`: this is the form that document 01 names for a list with a bad number.
         let Some(found) = T::read(rest) else {
             return None;
         };

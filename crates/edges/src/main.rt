@@ -11,7 +11,8 @@ use std::io;
 use weights::Weights;
 use words::{Coefficients, Words};
 
-// A job by its name: p, f, how many weights there are, and the places that hold them.
+// A job by its name: p, f, how many weights there are, and the places that hold them: count and places are the two fields of `Weights`,
+// which a table without names shows more plainly.
 type Job<'a> = (&'a str, u32, &'a [u32], usize, [i32; limits::CAPACITY]);
 
 // Weights by their name, the same.

@@ -76,7 +76,7 @@ pub fn write_list_line<T: Spelled>(out: &mut [u8], at: usize, key: &[u8], xs: &[
     decimal::write_list(out, a, xs)
 }
 
-// The one line that a program answers where it refuses.
+// The one line that a program answers where it refuses. (Its promise, `refused_line`, is of every number: a `Refusal` would ask more.)
 #[tactic(auto, unfolding(crate::specs::Lines::refused_line, crate::specs::Lines::bytes))]
 pub fn write_refused(out: &mut [u8], code: u32) -> usize
     requires { length (refused_line code) ≤ length out.old }

@@ -18,6 +18,9 @@ const LENT: u8 = 7;
 
 const LENT_TEXT: u8 = b'#';
 
+// Jobs and answers have other fields, and are read and written by functions of other arguments, so what follows stands once for each: a
+// generic over both would take as many closures as it has lines.
+
 // Bytes enough for the longest job, for the longest answer, and for the short texts that are written.
 const JOB_ROOM: usize = 1200;
 

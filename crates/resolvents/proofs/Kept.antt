@@ -6,7 +6,8 @@ use mathlib.Core.List.{List}
 use mathlib.Core.Logic.{◌↔◌}
 use Prim.Native.Nat.{ℕ, ◌<◌, ◌≤◌, ◌%◌}
 use native.Mathlib.Omega.{arith}
-use lib.ListN.{length}
+use lib.ListN.{length, take}
+use Rattle.std.proofs.lemmas.List.{length-take-le}
 use Rattle.std.specs.Prelude.{Result, Ok, Err}
 use Rattle.limits.specs.Limits.{capacity, room, most_placements}
 use Rattle.checks.specs.declared.Refusal.{Refusal}
@@ -88,9 +89,11 @@ module _ {p : ℕ} {f : List ℕ} {list : Weights} {out work : List ℕ} {j : Ju
   unfolding listed
   counted = record { number = count_is; high = few; below = rw count_is good.job.number.below }
 
-  -- the table that the engine is lent
-  pub lent : {before table : List ℕ} → Inverses p j.count before table → j.count ≤ length before → InverseTable p j.count table
-  lent t room = record { long = rw t.same room; entry = t.entry }
+  -- the table that the engine is lent, which is the first places of an array
+  pub lent : (xs : List ℕ) {table : List ℕ} → j.count ≤ length xs → Inverses p (length (take j.count xs)) (take j.count xs) table → InverseTable p j.count table
+  lent xs fits t =
+      let all : length (take j.count xs) ≡ j.count = length-take-le j.count xs fits in
+      record { long = omega (arith, t.same); entry = rw all at t.entry }
 
   -- and the inverse of the product of m!, from that of its remainder
   pub divisor : {r : ℕ} → Inverse p (j.product % p) r → Inverse p (factorials ℤ_eq (listed list)) r

@@ -51,10 +51,11 @@ pub fn resolvent(
     refusals::check_divisors(modulus, job.product, n)?;
     let mut scratch = [0u32; SCRATCH];
     let simple = polynomials::simple(modulus, f, &mut scratch);
-    let mut table = [0u32; limits::MOST_PLACEMENTS];
-    modulus.inverses(n, &mut table);
+    let mut places = [0u32; limits::MOST_PLACEMENTS];
+    let table = &mut places[..n];
+    modulus.inverses(table);
     let inverse = modulus.inverse(job.product % p);
-    let lists = engine::answer(modulus, f, list, n, &table, inverse, out, work);
+    let lists = engine::answer(modulus, f, list, n, table, inverse, out, work);
     clear(limits::WORK_ROWS * (n + 1), work);
     Ok(Summary {
         count: n,

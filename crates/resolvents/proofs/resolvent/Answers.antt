@@ -1,6 +1,6 @@
 -- A call is judged, and what is left of it is answered: `Kept` says why. Nothing lent is written before row 16 is past, so a refusal
 -- leaves it as it was.
-use Rattle.std.proofs.Common.{◌≡◌, mod-lt, arith, rules, length}
+use Rattle.std.proofs.Common.{◌≡◌, ◌≤◌, mod-lt, arith, rules, length, length-take}
 use Rattle.std.proofs.Math.Nat.{pos_of_ne-zero}
 use Rattle.limits.specs.Limits.{capacity}
 use Rattle.refusals.specs.Refusals.{Call}
@@ -37,10 +37,16 @@ simple-simple-requires c =
     let g = (good (passed (goal.at.simple-simple-requires c).In_ok-job)).job in
     record { prime = g.modulus.prime; c_len_bound = omega (arith, g.degree.high); c_in_bounds = omega (arith, g.degree.high); words = g.words }
 
+pub slice_bounds-places-end : goal.slice_bounds-places-end
+slice_bounds-places-end c = omega (arith, few (passed (goal.at.slice_bounds-places-end c).In_ok-job))
+
+pub slice_bounds-table-end : goal.slice_bounds-table-end
+slice_bounds-table-end c = let small : c.in_ok-job.job.count ≤ 1024 = omega (arith, few (passed (goal.at.slice_bounds-table-end c).In_ok-job)) in search rules
+
 pub inverses-requires : goal.inverses-requires
 inverses-requires c =
     let p = passed (goal.at.inverses-requires c).In_ok-job in
-    record { prime = (good p).job.modulus.prime; n_lt_p = ((counted p).below, omega (arith, few p)) }
+    record { prime = (good p).job.modulus.prime; n_lt_p = simp length-take (omega (arith, (counted p).below)) }
 
 pub nonzero_rem-job : goal.nonzero_rem-job
 nonzero_rem-job c = positive (passed (goal.at.nonzero_rem-job c).In_ok-job)
@@ -63,7 +69,7 @@ answer-lists-requires c =
       polynomial = (g.degree.high, omega (arith, g.degree.high, g.modulus.low), g.words);
       weights = (g.list.some, bounded p full, g.list.fits);
       counts = counted p;
-      inverses = (lent p c.inverses.ensures (omega (arith, few p)), divisor p c.inverse-inverse.ensures);
+      inverses = (lent p _ (omega (arith, few p)) c.inverses.ensures, divisor p c.inverse-inverse.ensures);
       room = (output_room p, work_room p);
     }
 
