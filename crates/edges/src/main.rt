@@ -1,5 +1,5 @@
 // Document 01's cases A to L and the calls at its edges, through the resolvent entry, and then as texts. Each line tells what came
-// back: the code, N, the mark, the number of lists worked and the first words of output.
+// back: the code, N, the mark, the number of lists worked and the first words of output. What cannot be written is left out.
 #![tactic(auto)]
 
 mod texts;
@@ -7,7 +7,6 @@ mod words;
 
 use checks::Refusal;
 use resolvents::Summary;
-use std::io;
 use weights::Weights;
 use words::{Coefficients, Words};
 
@@ -18,12 +17,7 @@ type Job<'a> = (&'a str, u32, &'a [u32], usize, [i32; limits::CAPACITY]);
 // Weights by their name, the same.
 type Listed<'a> = (&'a str, usize, [i32; limits::CAPACITY]);
 
-fn told(
-    rt: &impl Print,
-    name: &str,
-    answer: Result<Summary, Refusal>,
-    out: &[u32],
-) -> io::Result<()> {
+fn told(rt: &impl Print, name: &str, answer: Result<Summary, Refusal>, out: &[u32]) {
     let code = checks::code(&answer);
     let Summary {
         count,
@@ -32,45 +26,39 @@ fn told(
     } = answer.unwrap_or_default();
     let mark = if simple { "yes" } else { "no" };
     let coefficients = Coefficients(out.get(..count).unwrap_or(&[]));
-    println!(rt; "{name}: code {code}, N {count}, simple {mark}, lists {lists}{coefficients}")
+    let _ = println!(rt;
+        "{name}: code {code}, N {count}, simple {mark}, lists {lists}{coefficients}"
+    );
 }
 
 // A call with as much room as any call needs.
-fn job(rt: &impl Print, name: &str, p: u32, f: &[u32], list: Weights) -> io::Result<()> {
+fn job(rt: &impl Print, name: &str, p: u32, f: &[u32], list: Weights) {
     let mut out = [7; limits::MOST_PLACEMENTS];
     let mut work = [7; limits::LARGEST_ROOM];
     let answer = resolvents::resolvent(p, f, list, &mut out, &mut work);
-    told(rt, name, answer, &out)
+    told(rt, name, answer, &out);
 }
 
-fn worked(rt: &impl Print, jobs: &[Job]) -> io::Result<()> {
+fn worked(rt: &impl Print, jobs: &[Job]) {
     for &(name, p, f, len, places) in jobs {
-        job(rt, name, p, f, Weights { places, len })?;
+        job(rt, name, p, f, Weights { places, len });
     }
-    Ok(())
 }
 
 // What jobs cost, told without working them: the same numbers, or row 6 or 8.
-fn costs(rt: &impl Print, jobs: &[Listed]) -> io::Result<()> {
+fn costs(rt: &impl Print, jobs: &[Listed]) {
     for &(name, len, places) in jobs {
         let lists = resolvents::lists(Weights { places, len });
         let code = checks::code(&lists);
-        println!(rt; "{name}: code {code}, lists {}", lists.unwrap_or_default())?;
+        let _ = println!(rt; "{name}: code {code}, lists {}", lists.unwrap_or_default());
     }
-    Ok(())
 }
 
 // Case C's f with two weights and the room that is lent, and what is left there.
-fn lent(
-    rt: &impl Print,
-    name: &str,
-    weights: &[i32],
-    out: &mut [u32],
-    work: &mut [u32],
-) -> io::Result<()> {
+fn lent(rt: &impl Print, name: &str, weights: &[i32], out: &mut [u32], work: &mut [u32]) {
     let answer = resolvents::resolvent_for(257, &[254, 2], weights, out, work);
-    told(rt, name, answer, out)?;
-    println!(rt; "  output {}\n  work {}", Words(out), Words(work))
+    told(rt, name, answer, out);
+    let _ = println!(rt; "  output {}\n  work {}", Words(out), Words(work));
 }
 
 const QUARTIC: [u32; 4] = [0, 0, 0, 256];
@@ -205,7 +193,7 @@ const COSTS: [Listed; 8] = [
 ];
 
 // Output and work room: more than enough, one word fewer of each and of both, and exactly enough.
-fn room(rt: &impl Print) -> io::Result<()> {
+fn room(rt: &impl Print) {
     let pair = [1, 1];
     let apart = [1, 2];
     let mut out = [7, 8, 9, 10];
@@ -214,32 +202,32 @@ fn room(rt: &impl Print) -> io::Result<()> {
     let mut enough = [7; 36];
     let mut one = [7; 1];
     let mut fewer = [7; 35];
-    lent(rt, "words to spare", &pair, &mut out, &mut work)?;
-    lent(rt, "one output word fewer", &apart, &mut one, &mut enough)?;
-    lent(rt, "one work word fewer", &apart, &mut two, &mut fewer)?;
-    lent(rt, "one fewer of each", &apart, &mut one, &mut fewer)?;
-    lent(rt, "exactly enough", &apart, &mut two, &mut enough)
+    lent(rt, "words to spare", &pair, &mut out, &mut work);
+    lent(rt, "one output word fewer", &apart, &mut one, &mut enough);
+    lent(rt, "one work word fewer", &apart, &mut two, &mut fewer);
+    lent(rt, "one fewer of each", &apart, &mut one, &mut fewer);
+    lent(rt, "exactly enough", &apart, &mut two, &mut enough);
 }
 
-fn main(rt: HostRuntime) -> io::Result<()> {
-    println!(rt; "-- cases")?;
-    worked(&rt, &CASES)?;
-    println!(rt; "-- moduli")?;
-    worked(&rt, &MODULI)?;
-    println!(rt; "-- numbers of placements")?;
-    worked(&rt, &NUMBERS)?;
-    println!(rt; "-- bounds")?;
-    worked(&rt, &COUNTS)?;
-    worked(&rt, &SIZES)?;
-    println!(rt; "-- the first rule broken")?;
-    worked(&rt, &ORDERS)?;
-    println!(rt; "-- places after the r-th")?;
-    worked(&rt, &PLACES)?;
-    println!(rt; "-- lists worked")?;
-    worked(&rt, &LISTS)?;
-    println!(rt; "-- lists told without working them")?;
-    costs(&rt, &COSTS)?;
-    println!(rt; "-- room")?;
-    room(&rt)?;
-    texts::all(&rt)
+fn main(rt: HostRuntime) {
+    let _ = println!(rt; "-- cases");
+    worked(&rt, &CASES);
+    let _ = println!(rt; "-- moduli");
+    worked(&rt, &MODULI);
+    let _ = println!(rt; "-- numbers of placements");
+    worked(&rt, &NUMBERS);
+    let _ = println!(rt; "-- bounds");
+    worked(&rt, &COUNTS);
+    worked(&rt, &SIZES);
+    let _ = println!(rt; "-- the first rule broken");
+    worked(&rt, &ORDERS);
+    let _ = println!(rt; "-- places after the r-th");
+    worked(&rt, &PLACES);
+    let _ = println!(rt; "-- lists worked");
+    worked(&rt, &LISTS);
+    let _ = println!(rt; "-- lists told without working them");
+    costs(&rt, &COSTS);
+    let _ = println!(rt; "-- room");
+    room(&rt);
+    texts::all(&rt);
 }

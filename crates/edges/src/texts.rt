@@ -1,30 +1,27 @@
 // The same cases and edges as texts: what `linres` reads, and what it writes for it. Of a long answer the first bytes are shown.
-use std::io;
-
 // A text by its name.
 type Text<'a> = (&'a str, &'a [u8]);
 
 const MOST_SHOWN: usize = 120;
 
 // The bytes, or the first 120 where there are more.
-fn shown(rt: &impl Print, text: &[u8]) -> io::Result<()> {
+fn shown(rt: &impl Print, text: &[u8]) {
     let end = if text.len() > MOST_SHOWN { "..\n" } else { "" };
-    rt.write_all(text.get(..MOST_SHOWN).unwrap_or(text))?;
-    print!(rt; "{end}")
+    let _ = rt.write_all(text.get(..MOST_SHOWN).unwrap_or(text));
+    let _ = print!(rt; "{end}");
 }
 
-fn ask(rt: &impl Print, name: &str, text: &[u8]) -> io::Result<()> {
+fn ask(rt: &impl Print, name: &str, text: &[u8]) {
     let mut out = [7; limits::LONGEST_ANSWER];
     let len = linres_text::answer_text(text, &mut out).unwrap_or_default();
-    println!(rt; "{name}")?;
-    shown(rt, out.get(..len).unwrap_or(&[]))
+    let _ = println!(rt; "{name}");
+    shown(rt, out.get(..len).unwrap_or(&[]));
 }
 
-fn asked(rt: &impl Print, texts: &[Text]) -> io::Result<()> {
+fn asked(rt: &impl Print, texts: &[Text]) {
     for &(name, text) in texts {
-        ask(rt, name, text)?;
+        ask(rt, name, text);
     }
-    Ok(())
 }
 
 const CASES: [Text; 12] = [
@@ -150,16 +147,16 @@ const NOT_JOBS: [Text; 6] = [
     ),
 ];
 
-pub fn all(rt: &impl Print) -> io::Result<()> {
-    println!(rt; "-- cases as texts")?;
-    asked(rt, &CASES)?;
-    println!(rt; "-- edges as texts")?;
-    asked(rt, &MODULI)?;
-    asked(rt, &NUMBERS)?;
-    println!(rt; "-- seven weights as texts")?;
-    asked(rt, &SEVEN_WEIGHTS)?;
-    println!(rt; "-- texts that are no job")?;
-    ask(rt, "no text", b"")?;
-    ask(rt, "4,097 bytes", &[b'1'; limits::LONGEST_TEXT + 1])?;
-    asked(rt, &NOT_JOBS)
+pub fn all(rt: &impl Print) {
+    let _ = println!(rt; "-- cases as texts");
+    asked(rt, &CASES);
+    let _ = println!(rt; "-- edges as texts");
+    asked(rt, &MODULI);
+    asked(rt, &NUMBERS);
+    let _ = println!(rt; "-- seven weights as texts");
+    asked(rt, &SEVEN_WEIGHTS);
+    let _ = println!(rt; "-- texts that are no job");
+    ask(rt, "no text", b"");
+    ask(rt, "4,097 bytes", &[b'1'; limits::LONGEST_TEXT + 1]);
+    asked(rt, &NOT_JOBS);
 }

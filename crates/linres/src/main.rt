@@ -46,7 +46,15 @@ fn read_whole(input: &mut Stdin, text: &mut [u8]) -> io::Result<usize>
 fn write_whole(output: &mut Stdout, text: &[u8], answer: &[u8]) -> io::Result<()>
     requires { TextOf text.now answer.now }
 {
-    output.write_all(answer)
+    output.write_all(answer).map_err(in_plain_words)
+}
+
+// The library has words of its own for a write that takes no byte; `write zero` says what happened.
+fn in_plain_words(error: Error) -> Error {
+    match error.kind() {
+        ErrorKind::WriteZero => Error::from(ErrorKind::WriteZero),
+        _ => error,
+    }
 }
 
 // Bytes enough for the system's words for any error.

@@ -97,16 +97,20 @@ module _ (text : List ℕ) where
     room_is : (most_numbers ≤ length c.coeffs) × (most_numbers ≤ length c.weights)
     room_is = (omega (arith, c.coeffs_long), omega (arith, c.weights_long))
 
-    -- a number other than 0 is that of row 1
-    pub no_job : (out out' : List ℕ) (s : Written) → (r.code ≡ 0 → ⊥) → Put (refused_line r.code) out s out' → Puts (TextOf text) out s out'
-    no_job out out' s n p =
-        let never : (j : Job) → JobHolds j → text ≡ job_text j → ⊥ = λ j h e. n ((read_job_exactly c.read).1 (room_is, (j, h, e))) in
-        let one : r.code ≡ 1 = ap (λ (x : JobRead). x.code) (c.read.no_record room_is (λ i. never i.0 i.1 i.2)).0 in
-        record {
-          bytes = refused_line 1;
-          right = record { long = λ _. refl; none = λ _. refl; job = λ _ j h e. absurd (never j h e) };
-          put = rw one at p;
-        }
+    module _ (other : r.code ≡ 0 → ⊥) where
+      never : (j : Job) → JobHolds j → text ≡ job_text j → ⊥
+      never j h e = other ((read_job_exactly c.read).1 (room_is, (j, h, e)))
+
+      -- a number other than 0 is that of row 1
+      pub row_1 : r.code ≡ 1
+      row_1 = ap (λ (x : JobRead). x.code) (c.read.no_record room_is (λ i. never i.0 i.1 i.2)).0
+
+      pub no_job : {n : ℕ} (out out' : List ℕ) (s : Written) → n ≡ 1 → Put (refused_line n) out s out' → Puts (TextOf text) out s out'
+      no_job out out' s one p = record {
+        bytes = refused_line 1;
+        right = record { long = λ _. refl; none = λ _. refl; job = λ _ j h e. absurd (never j h e) };
+        put = rw one at p;
+      }
 
     module _ (zero : r.code ≡ 0) where
       values : JobHolds (job_values r (c.cs, c.ws)) × (text ≡ job_text (job_values r (c.cs, c.ws)))

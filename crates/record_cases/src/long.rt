@@ -1,6 +1,6 @@
 // Texts whose lists are long.
+use std::fmt;
 use std::io::Write;
-use std::{fmt, io};
 
 // A number, and how many times it stands, with commas between.
 #[derive(Clone, Copy)]
@@ -19,11 +19,11 @@ impl fmt::Display for Repeated {
     }
 }
 
-// What is shown, as a text at the front of room.
-pub fn text<'a>(room: &'a mut [u8], shown: impl fmt::Display + Drop) -> io::Result<&'a [u8]> {
+// What is shown, as a text at the front of room; what has no room is left out.
+pub fn text<'a>(room: &'a mut [u8], shown: impl fmt::Display + Drop) -> &'a [u8] {
     let most = room.len();
     let mut rest = &mut room[..];
-    write!(rest, "{shown}")?;
+    let _ = write!(rest, "{shown}");
     let len = most.saturating_sub(rest.len());
-    Ok(&room[..len])
+    &room[..len]
 }

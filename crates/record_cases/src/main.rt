@@ -1,4 +1,5 @@
-// Reads and writes records at their edges, and prints what came out: the numbers of each answer, what is left of the slices, and the texts.
+// Reads and writes records at their edges, and prints what came out: the numbers of each answer, what is left of the slices, and the texts. What
+// cannot be written is left out.
 #![tactic(auto)]
 
 mod long;
@@ -6,7 +7,6 @@ mod long;
 use checks::Refusal;
 use long::Repeated;
 use records::{AnswerHead, JobHead};
-use std::io;
 
 // One number more than a line of a job or an answer holds.
 const MANY_NUMBERS: usize = limits::MOST_NUMBERS + 1;
@@ -59,13 +59,7 @@ fn answer_is_back(text: &[u8], head: AnswerHead, coeffs: &[u32]) -> bool {
 }
 
 // Reads a job: the case, the text's length, code, modulus, the two counts, the words kept, and whether it is written back as it was.
-fn job_in(
-    rt: &impl Print,
-    case: usize,
-    text: &[u8],
-    coeffs: &mut [u32],
-    weights: &mut [i32],
-) -> io::Result<()> {
+fn job_in(rt: &impl Print, case: usize, text: &[u8], coeffs: &mut [u32], weights: &mut [i32]) {
     let read = records::read_job(text, coeffs, weights);
     let code = checks::code(&read);
     let head = read.unwrap_or_default();
@@ -73,27 +67,27 @@ fn job_in(
     let of_coeffs = kept(coeffs, n, u32::from(LENT));
     let of_weights = kept(weights, m, i32::from(LENT));
     let end = ending(read.is_ok() && job_is_back(text, head, coeffs, weights));
-    println!(rt;
+    let _ = println!(rt;
         " {case} {} {code} {modulus} {n} {m} kept {of_coeffs} {of_weights}{end}",
         text.len()
-    )
+    );
 }
 
 // The same with slices of c and w words lent.
-fn job_lent(rt: &impl Print, case: usize, text: &[u8], c: usize, w: usize) -> io::Result<()> {
+fn job_lent(rt: &impl Print, case: usize, text: &[u8], c: usize, w: usize) {
     let mut coeffs = [u32::from(LENT); MANY_NUMBERS];
     let mut weights = [i32::from(LENT); MANY_NUMBERS];
     let c = c.min(MANY_NUMBERS);
     let w = w.min(MANY_NUMBERS);
-    job_in(rt, case, text, &mut coeffs[..c], &mut weights[..w])
+    job_in(rt, case, text, &mut coeffs[..c], &mut weights[..w]);
 }
 
-fn job(rt: &impl Print, case: usize, text: &[u8]) -> io::Result<()> {
-    job_lent(rt, case, text, MANY_NUMBERS, MANY_NUMBERS)
+fn job(rt: &impl Print, case: usize, text: &[u8]) {
+    job_lent(rt, case, text, MANY_NUMBERS, MANY_NUMBERS);
 }
 
 // The same for an answer, with its mark.
-fn answer_in(rt: &impl Print, case: usize, text: &[u8], coeffs: &mut [u32]) -> io::Result<()> {
+fn answer_in(rt: &impl Print, case: usize, text: &[u8], coeffs: &mut [u32]) {
     let read = records::read_answer(text, coeffs);
     let code = checks::code(&read);
     let head = read.unwrap_or_default();
@@ -101,62 +95,45 @@ fn answer_in(rt: &impl Print, case: usize, text: &[u8], coeffs: &mut [u32]) -> i
     let mark = if head.simple { "yes" } else { "no" };
     let of_coeffs = kept(coeffs, n, u32::from(LENT));
     let end = ending(read.is_ok() && answer_is_back(text, head, coeffs));
-    println!(rt;
+    let _ = println!(rt;
         " {case} {} {code} {modulus} {n} {mark} kept {of_coeffs}{end}",
         text.len()
-    )
+    );
 }
 
-fn answer_lent(rt: &impl Print, case: usize, text: &[u8], c: usize) -> io::Result<()> {
+fn answer_lent(rt: &impl Print, case: usize, text: &[u8], c: usize) {
     let mut coeffs = [u32::from(LENT); MANY_COEFFICIENTS];
     let c = c.min(MANY_COEFFICIENTS);
-    answer_in(rt, case, text, &mut coeffs[..c])
+    answer_in(rt, case, text, &mut coeffs[..c]);
 }
 
-fn answer(rt: &impl Print, case: usize, text: &[u8]) -> io::Result<()> {
-    answer_lent(rt, case, text, MANY_COEFFICIENTS)
+fn answer(rt: &impl Print, case: usize, text: &[u8]) {
+    answer_lent(rt, case, text, MANY_COEFFICIENTS);
 }
 
 // What a writer did: code, length, the bytes kept, and the text.
-fn show(
-    rt: &impl Print,
-    case: usize,
-    written: Result<usize, Refusal>,
-    out: &[u8],
-) -> io::Result<()> {
+fn show(rt: &impl Print, case: usize, written: Result<usize, Refusal>, out: &[u8]) {
     let code = checks::code(&written);
     let n = written.unwrap_or_default();
     let of_text = kept(out, n, LENT_TEXT);
     let text = out.get(..n).unwrap_or(&[]);
-    println!(rt; " {case} {code} {n} kept {of_text}")?;
-    rt.write_all(text)
+    let _ = println!(rt; " {case} {code} {n} kept {of_text}");
+    let _ = rt.write_all(text);
 }
 
 // Writes a job into `room` bytes.
-fn put_job(
-    rt: &impl Print,
-    case: usize,
-    coeffs: &[u32],
-    weights: &[i32],
-    room: usize,
-) -> io::Result<()> {
+fn put_job(rt: &impl Print, case: usize, coeffs: &[u32], weights: &[i32], room: usize) {
     let mut out = [LENT_TEXT; SHORT_ROOM];
     let room = room.min(SHORT_ROOM);
     let written = records::write_job(257, coeffs, weights, &mut out[..room]);
-    show(rt, case, written, &out[..room])
+    show(rt, case, written, &out[..room]);
 }
 
-fn put_answer(
-    rt: &impl Print,
-    case: usize,
-    simple: bool,
-    coeffs: &[u32],
-    room: usize,
-) -> io::Result<()> {
+fn put_answer(rt: &impl Print, case: usize, simple: bool, coeffs: &[u32], room: usize) {
     let mut out = [LENT_TEXT; SHORT_ROOM];
     let room = room.min(SHORT_ROOM);
     let written = records::write_answer(257, simple, coeffs, &mut out[..room]);
-    show(rt, case, written, &out[..room])
+    show(rt, case, written, &out[..room]);
 }
 
 const JOBS: [&[u8]; 12] = [
@@ -197,42 +174,40 @@ const LONG_JOBS: [(u32, Repeated, Repeated); 4] = [
     (4294967295, Repeated(4294967295, 64), Repeated(-999, 64)),
 ];
 
-fn jobs(rt: &impl Print) -> io::Result<()> {
+fn jobs(rt: &impl Print) {
     for (i, text) in JOBS.iter().enumerate() {
-        job(rt, i + 1, text)?;
+        job(rt, i + 1, text);
     }
-    Ok(())
 }
 
-fn long_jobs(rt: &impl Print) -> io::Result<()> {
+fn long_jobs(rt: &impl Print) {
     for (i, &(modulus, coeffs, weights)) in LONG_JOBS.iter().enumerate() {
         let mut room = [0; JOB_ROOM];
         let degree = coeffs.1;
         let shown = format_args!(
             "modulus={modulus}\ndegree={degree}\ncoeffs={coeffs}\nweights={weights}\n"
         );
-        job(rt, JOBS.len() + i + 1, long::text(&mut room, shown)?)?;
+        job(rt, JOBS.len() + i + 1, long::text(&mut room, shown));
     }
-    Ok(())
 }
 
-fn lent(rt: &impl Print) -> io::Result<()> {
+fn lent(rt: &impl Print) {
     let text = b"modulus=257\ndegree=1\ncoeffs=0\nweights=1\n";
     // 63 words lent
-    job_lent(rt, 1, text, 63, 64)?;
+    job_lent(rt, 1, text, 63, 64);
     // 63 weights lent
-    job_lent(rt, 2, text, 64, 63)?;
+    job_lent(rt, 2, text, 64, 63);
     // 63 words lent, no job
-    job_lent(rt, 3, b"job", 63, 64)?;
+    job_lent(rt, 3, b"job", 63, 64);
     // 64 and 64 lent
-    job_lent(rt, 4, text, 64, 64)?;
+    job_lent(rt, 4, text, 64, 64);
     let reply = b"modulus=257\ndegree=1\nsimple=yes\ncoeffs=0\n";
     // 1023 words lent
-    answer_lent(rt, 5, reply, 1023)?;
+    answer_lent(rt, 5, reply, 1023);
     // 1023 words lent, no answer
-    answer_lent(rt, 6, b"answer", 1023)?;
+    answer_lent(rt, 6, b"answer", 1023);
     // 1024 words lent
-    answer_lent(rt, 7, reply, 1024)
+    answer_lent(rt, 7, reply, 1024);
 }
 
 const ANSWERS: [&[u8]; 4] = [
@@ -255,69 +230,67 @@ const LONG_ANSWERS: [(u32, &str, Repeated); 3] = [
     (4294967295, "yes", Repeated(4294967295, 1024)),
 ];
 
-fn answers(rt: &impl Print) -> io::Result<()> {
+fn answers(rt: &impl Print) {
     for (i, text) in ANSWERS.iter().enumerate() {
-        answer(rt, i + 1, text)?;
+        answer(rt, i + 1, text);
     }
-    Ok(())
 }
 
-fn long_answers(rt: &impl Print) -> io::Result<()> {
+fn long_answers(rt: &impl Print) {
     for (i, &(modulus, mark, coeffs)) in LONG_ANSWERS.iter().enumerate() {
         let mut room = [0; ANSWER_ROOM];
         let degree = coeffs.1;
         let shown = format_args!(
             "modulus={modulus}\ndegree={degree}\nsimple={mark}\ncoeffs={coeffs}\n"
         );
-        answer(rt, ANSWERS.len() + i + 1, long::text(&mut room, shown)?)?;
+        answer(rt, ANSWERS.len() + i + 1, long::text(&mut room, shown));
     }
-    Ok(())
 }
 
-fn written_jobs(rt: &impl Print) -> io::Result<()> {
+fn written_jobs(rt: &impl Print) {
     let coeffs = [0, 0, 0, 256];
     let weights = [1, -1];
     // three bytes more
-    put_job(rt, 1, &coeffs, &weights, 54)?;
+    put_job(rt, 1, &coeffs, &weights, 54);
     // exactly long enough
-    put_job(rt, 2, &coeffs, &weights, 51)?;
+    put_job(rt, 2, &coeffs, &weights, 51);
     // one byte shorter
-    put_job(rt, 3, &coeffs, &weights, 50)?;
+    put_job(rt, 3, &coeffs, &weights, 50);
     // no coefficients
-    put_job(rt, 4, &[], &weights, 60)?;
+    put_job(rt, 4, &[], &weights, 60);
     // 65 coefficients, no room
-    put_job(rt, 5, &[0; MANY_NUMBERS], &weights, 0)?;
+    put_job(rt, 5, &[0; MANY_NUMBERS], &weights, 0);
     // weight 1000, no room
-    put_job(rt, 6, &coeffs, &[1000], 0)
+    put_job(rt, 6, &coeffs, &[1000], 0);
 }
 
-fn written_answers(rt: &impl Print) -> io::Result<()> {
+fn written_answers(rt: &impl Print) {
     let coeffs = [0, 0, 0, 4, 0, 0];
     // three bytes more
-    put_answer(rt, 1, true, &coeffs, 54)?;
+    put_answer(rt, 1, true, &coeffs, 54);
     // exactly long enough
-    put_answer(rt, 2, true, &coeffs, 51)?;
+    put_answer(rt, 2, true, &coeffs, 51);
     // one byte shorter
-    put_answer(rt, 3, true, &coeffs, 50)?;
+    put_answer(rt, 3, true, &coeffs, 50);
     // not simple
-    put_answer(rt, 4, false, &coeffs, 50)?;
+    put_answer(rt, 4, false, &coeffs, 50);
     // no coefficients, no room
-    put_answer(rt, 5, true, &[], 0)?;
+    put_answer(rt, 5, true, &[], 0);
     // 1025 coefficients, no room
-    put_answer(rt, 6, true, &[0; MANY_COEFFICIENTS], 0)
+    put_answer(rt, 6, true, &[0; MANY_COEFFICIENTS], 0);
 }
 
-fn main(rt: HostRuntime) -> io::Result<()> {
-    println!(rt; "-- jobs")?;
-    jobs(&rt)?;
-    long_jobs(&rt)?;
-    println!(rt; "-- answers")?;
-    answers(&rt)?;
-    long_answers(&rt)?;
-    println!(rt; "-- slices too short, and just long enough")?;
-    lent(&rt)?;
-    println!(rt; "-- jobs written")?;
-    written_jobs(&rt)?;
-    println!(rt; "-- answers written")?;
-    written_answers(&rt)
+fn main(rt: HostRuntime) {
+    let _ = println!(rt; "-- jobs");
+    jobs(&rt);
+    long_jobs(&rt);
+    let _ = println!(rt; "-- answers");
+    answers(&rt);
+    long_answers(&rt);
+    let _ = println!(rt; "-- slices too short, and just long enough");
+    lent(&rt);
+    let _ = println!(rt; "-- jobs written");
+    written_jobs(&rt);
+    let _ = println!(rt; "-- answers written");
+    written_answers(&rt);
 }

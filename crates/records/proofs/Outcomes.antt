@@ -8,8 +8,11 @@ use native.Mathlib.Omega.{arith}
 use lib.IntN.{ℤ}
 use lib.ListN.{length, take, drop, length-append, length-drop}
 use lib.Seq.{take-append_seam}
-use Rattle.std.specs.Prelude.{Result}
+use Rattle.std.specs.Prelude.{Result, None, Some, ok_or}
+use Rattle.std.specs.Prelude as prelude
+use Rattle.std.specs.Option.{UnwrapsOrElse}
 use Rattle.checks.specs.declared.Refusal.{Refusal}
+use Rattle.checks.specs.declared.Refusal.TheVariants.{NoRecord}
 use Rattle.checks.specs.Refusal.{number_positive}
 use Rattle.std.specs.declared.result.Result.TheVariants.{Ok, Err}
 use Rattle.records.specs.declared.AnswerHead.{AnswerHead}
@@ -85,6 +88,25 @@ module _ (t : List ℕ) {q r : Result JobHead Refusal} {cs : List ℕ} {ws : Lis
         let d = front_is j.coeffs cs (ap (λ (x : JobRead). x.degree) f) (ap (λ l. l.0) g) in
         let e = front_is j.weights ws (ap (λ (x : JobRead). x.weights) f) (ap (λ l. l.1) g) in
         rw (a, b, d, e))
+
+-- the answer and what was copied, o being what the parser found and h that or, where it found none, counts of 0
+module _ (t : List ℕ) {cs : List ℕ} {ws : List ℤ} (o : prelude.Option JobHead) (h : JobHead) (Zero : JobHead → Type 0) (zero : Zero h → (h.degree ≡ 0) × (h.weights ≡ 0))
+    (u : UnwrapsOrElse o Zero h) (p : Parsed job_kind (read_job t) (job_told (ok_or o NoRecord)) (cs, ws)) where
+  counts_by : (x : prelude.Option JobHead) → o ≡ x → (h.degree ≤ length cs) × (h.weights ≤ length ws)
+  counts_by None e = let z = zero (rw e at u) in (omega (arith, z.0), omega (arith, z.1))
+  counts_by (Some x) e = let same : h ≡ x = rw e at u in rw same (job_counts t refl refl (rw e at p))
+
+  pub job_counted : (h.degree ≤ length cs) × (h.weights ≤ length ws)
+  job_counted = counts_by o refl
+
+  done_by : (x : prelude.Option JobHead) → o ≡ x → {c c' : List ℕ} {w w' : List ℤ} → JobRoom (c, w) → c' ≡ over (take h.degree cs) c → w' ≡ over (take h.weights ws) w
+      → ReadsJob t (c, w) (job_told (ok_or x NoRecord)) (c', w')
+  done_by None e room a b = let z = zero (rw e at u) in rw (a, b, z.0, z.1) (job_refused t refl {x = NoRecord} refl refl refl room (rw e at p))
+  done_by (Some x) e room a b = let same : h ≡ x = rw e at u in job_copied t refl refl (rw e at p) room (rw same at a) (rw same at b)
+
+  pub job_done : {r : Result JobHead Refusal} {c c' : List ℕ} {w w' : List ℤ} → r ≡ ok_or o NoRecord → JobRoom (c, w) → c' ≡ over (take h.degree cs) c
+      → w' ≡ over (take h.weights ws) w → ReadsJob t (c, w) (job_told r) (c', w')
+  job_done e room a b = rw e (done_by o refl room a b)
 
 module _ (t : List ℕ) {q r : Result AnswerHead Refusal} {cs : List ℕ} (e : r ≡ q) where
   pub answer_refused : {s : Result AnswerHead Refusal} {x y : Refusal} {lent : List ℕ} → r ≡ Err x → s ≡ Err y → y ≡ x → AnswerRoom lent →

@@ -1,7 +1,7 @@
 // The two records of document 01, read and written. A record has one spelling.
 #![tactic(auto)]
 
-ghost use Rattle.std.specs.Prelude.{◌≡◌, true, ◌↔◌, ◌+◌, ◌≤◌, length, ok_or};
+ghost use Rattle.std.specs.Prelude.{◌≡◌, true, ◌↔◌, ◌+◌, ◌≤◌, length, take, ok_or};
 ghost use Rattle.checks.specs.declared.Refusal.TheVariants.{NoRecord};
 ghost use Rattle.decimal.specs.Written.{Wrote};
 ghost use Rattle.records.specs.Records.{JobHolds, AnswerHolds, job, answer, job_text, answer_text};
@@ -29,12 +29,12 @@ pub struct AnswerHead {
     pub simple: bool,
 }
 
-// The front goes over the front of lent; the rest is left.
-fn copy_over<T: Copy>(front: &[T], lent: &mut [T])
-    requires { length front.now ≤ length lent.old }
-    ensures { lent.new ≡ over front.now lent.old }
+// The first n of the array go over the front of lent; the rest is left.
+fn copy_over<T: Copy>(array: &[T], n: usize, lent: &mut [T])
+    requires { (n ≤ length array.now) × (n ≤ length lent.old) }
+    ensures { lent.new ≡ over (take n array.now) lent.old }
 {
-    lent[..front.len()].copy_from_slice(front);
+    lent[..n].copy_from_slice(&array[..n]);
 }
 
 // A job and an answer have other fields and other lines, so the functions below stand twice: a trait for both kinds is longer than they
@@ -70,10 +70,15 @@ pub fn read_job(text: &[u8], coeffs: &mut [u32], weights: &mut [i32]) -> Result<
     let mut cs = [0u32; limits::MOST_NUMBERS];
     let mut ws = [0i32; limits::MOST_NUMBERS];
     let found = parse_job(text, &mut cs, &mut ws);
-    let head = found.ok_or(Refusal::NoRecord)?;
-    copy_over(&cs[..head.degree], coeffs);
-    copy_over(&ws[..head.weights], weights);
-    Ok(head)
+    // Where no job is found both counts are 0, and nothing is copied.
+    let JobHead {
+        degree: n,
+        weights: m,
+        ..
+    } = found.unwrap_or_default();
+    copy_over(&cs, n, coeffs);
+    copy_over(&ws, m, weights);
+    found.ok_or(Refusal::NoRecord)
 }
 
 // The whole text as an answer, whose coefficients go to the front of cs; any other text leaves it in any state.
@@ -106,7 +111,7 @@ pub fn read_answer(text: &[u8], coeffs: &mut [u32]) -> Result<AnswerHead, Refusa
     let mut cs = [0u32; limits::MOST_PLACEMENTS];
     let found = parse_answer(text, &mut cs);
     let head = found.ok_or(Refusal::NoRecord)?;
-    copy_over(&cs[..head.degree], coeffs);
+    copy_over(&cs, head.degree, coeffs);
     Ok(head)
 }
 

@@ -17,7 +17,7 @@ sum_is : {x e : ℤ} → FitsSigned w32 x → FitsSigned w32 e → word x +ℤ w
 sum_is f g = ap₂ ◌+ℤ◌ (to_z-of_z w32 _ f) (to_z-of_z w32 _ g)
 
 module _ (s : Weights) (at : ℕ) (e : ℤ) (weight : FitsSigned w32 (get_or s.places at (pos 0))) (addend : FitsSigned w32 e) where
-  abbrev read : ℤ
+  abbrev pub read : ℤ
   read = word (get_or s.places at (pos 0)) +ℤ word e
 
   pub stored : {sum : ℤ} → among s at ≡ true → FitsSigned w32 read × (sum ≡ read)

@@ -23,9 +23,13 @@ impl Weights {
         ensures { result ≡ of_slice weights.now }
     {
         let len = weights.len();
-        let placed = len.min(limits::CAPACITY);
         let mut places = [0i32; limits::CAPACITY];
-        places[..placed].copy_from_slice(&weights[..placed]);
+        // Place by place: so few numbers are copied sooner than the system's copy is called, which a copy of `len` numbers is made to.
+        for at in 0..limits::CAPACITY {
+            if at < len {
+                places[at] = weights[at];
+            }
+        }
         Weights { places, len }
     }
 
@@ -46,7 +50,10 @@ impl Weights {
         }
         let len = self.len - 1;
         let mut places = self.places;
-        places.copy_within(at + 1..self.len, at);
+        // By index: each turn reads the place behind the one that it writes.
+        for i in at..len {
+            places[i] = places[i + 1];
+        }
         places[len] = 0;
         Weights { places, len }
     }
@@ -59,8 +66,10 @@ impl Weights {
         if !self.has_place(at) {
             return self;
         }
-        if let Some(sum) = self.places[at].checked_add(e) {
-            self.places[at] = sum;
+        let sum = i64::from(self.places[at]) + i64::from(e);
+        let fits = (i64::from(i32::MIN)..=i64::from(i32::MAX)).contains(&sum);
+        if fits {
+            self.places[at] = sum as i32;
         }
         self
     }

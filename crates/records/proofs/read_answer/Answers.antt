@@ -1,6 +1,6 @@
 -- The slice is tested, then the text is read into an array of the function's own. What is found there goes to the front of the slice;
 -- where no answer is found, nothing does.
-use Rattle.std.proofs.Common.{◌≤◌, sym, length, arith, length-take-le}
+use Rattle.std.proofs.Common.{◌≤◌, length, arith}
 use Rattle.std.proofs.lemmas.Result.{err_from_is_err_and}
 use Rattle.records.proofs.Outcomes as outcomes
 use Rattle.records.proofs.read_answer.Goals as goal
@@ -15,11 +15,8 @@ returns-in_err-head c =
     let (x, e, f) = err_from_is_err_and c.from_residual.result c.from_residual.ensures.1 in
     outcomes.answer_refused c.args.text.now c.ok_or.ensures.value c.in_err-head.was e f (omega arith) c.parse_answer-found.ensures
 
-pub slice_bounds-cs-end : goal.slice_bounds-cs-end
-slice_bounds-cs-end c = count c
-
-pub slice_bounds-copy_over-end : goal.slice_bounds-copy_over-end
-slice_bounds-copy_over-end c = sym (length-take-le _ _ (count (goal.at.slice_bounds-copy_over-end c).In_ok-head))
+pub copy_over-requires : goal.copy_over-requires
+copy_over-requires c = omega (arith, count (goal.at.copy_over-requires c).In_ok-head)
 
 pub returns : goal.returns
 returns c = outcomes.answer_copied c.args.text.now c.ok_or.ensures.value c.in_ok-head.was c.parse_answer-found.ensures (omega arith) c.copy_over.ensures

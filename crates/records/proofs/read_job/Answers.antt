@@ -1,32 +1,21 @@
 -- Two slices are tested, then the text is read into arrays of the function's own. What is found there goes to the fronts of the slices;
--- where no job is found, nothing does.
-use Rattle.std.proofs.Common.{◌≤◌, sym, length, arith, length-take-le}
-use Rattle.std.proofs.lemmas.Result.{err_from_is_err_and}
+-- where no job is found the counts are 0, and nothing does.
+use Rattle.std.proofs.Common.{◌≤◌, length, arith}
 use Rattle.records.proofs.Outcomes as outcomes
 use Rattle.records.proofs.read_job.Goals as goal
-use Rattle.records.proofs.read_job.Goals.{In_ok-head}
+use Rattle.records.proofs.read_job.Goals.{After-unwrap_or_default-n}
 
--- the arrays hold as many numbers as the answer says
-counts : (c : In_ok-head) → (c.in_ok-head.head.degree ≤ length c.parse_job-found.new.cs) × (c.in_ok-head.head.weights ≤ length c.parse_job-found.new.ws)
-counts c = outcomes.job_counts c.args.text.now c.ok_or.ensures.value c.in_ok-head.was c.parse_job-found.ensures
+-- the arrays hold as many numbers as the head says
+counts : (c : After-unwrap_or_default-n) → (c.unwrap_or_default-n.result.degree ≤ length c.parse_job-found.new.cs) × (c.unwrap_or_default-n.result.weights ≤ length c.parse_job-found.new.ws)
+counts c = outcomes.job_counted c.args.text.now c.parse_job-found.result c.unwrap_or_default-n.result _ (λ z. z.1) c.unwrap_or_default-n.ensures c.parse_job-found.ensures
 
-pub returns-in_err-head : goal.returns-in_err-head
-returns-in_err-head c =
-    let (x, e, f) = err_from_is_err_and c.from_residual.result c.from_residual.ensures.1 in
-    outcomes.job_refused c.args.text.now c.ok_or.ensures.value c.in_err-head.was e f (omega arith) c.parse_job-found.ensures
+pub copy_over-requires : goal.copy_over-requires
+copy_over-requires c = omega (arith, counts (goal.at.copy_over-requires c).After-unwrap_or_default-n)
 
-pub slice_bounds-cs-end : goal.slice_bounds-cs-end
-slice_bounds-cs-end c = (counts c).0
-
-pub slice_bounds-copy_over-end : goal.slice_bounds-copy_over-end
-slice_bounds-copy_over-end c = sym (length-take-le _ _ (counts (goal.at.slice_bounds-copy_over-end c).In_ok-head).0)
-
-pub slice_bounds-ws-end : goal.slice_bounds-ws-end
-slice_bounds-ws-end c = (counts (goal.at.slice_bounds-ws-end c).In_ok-head).1
-
-pub slice_bounds-copy_over-end-2 : goal.slice_bounds-copy_over-end-2
-slice_bounds-copy_over-end-2 c = sym (length-take-le _ _ (counts (goal.at.slice_bounds-copy_over-end-2 c).In_ok-head).1)
+pub copy_over-requires-2 : goal.copy_over-requires-2
+copy_over-requires-2 c = omega (arith, counts (goal.at.copy_over-requires-2 c).After-unwrap_or_default-n)
 
 pub returns : goal.returns
 returns c =
-    outcomes.job_copied c.args.text.now c.ok_or.ensures.value c.in_ok-head.was c.parse_job-found.ensures (omega arith) c.copy_over.ensures c.copy_over-2.ensures
+    outcomes.job_done c.args.text.now c.parse_job-found.result c.unwrap_or_default-n.result _ (λ z. z.1) c.unwrap_or_default-n.ensures c.parse_job-found.ensures
+    c.ok_or.ensures.value (omega arith) c.copy_over.ensures c.copy_over-2.ensures
