@@ -29,7 +29,8 @@ pub struct AnswerHead {
     pub simple: bool,
 }
 
-// The first n of the array go over the front of lent; the rest is left.
+// The first n of the array go over the front of lent; the rest is left. (The array comes whole, with n beside it, so that an edit can have
+// another number copied.)
 fn copy_over<T: Copy>(array: &[T], n: usize, lent: &mut [T])
     requires { (n ≤ length array.now) × (n ≤ length lent.old) }
     ensures { lent.new ≡ over (take n array.now) lent.old }
@@ -70,7 +71,7 @@ pub fn read_job(text: &[u8], coeffs: &mut [u32], weights: &mut [i32]) -> Result<
     let mut cs = [0u32; limits::MOST_NUMBERS];
     let mut ws = [0i32; limits::MOST_NUMBERS];
     let found = parse_job(text, &mut cs, &mut ws);
-    // Where no job is found both counts are 0, and nothing is copied.
+    // Where no job is found both counts are 0, and nothing is copied. (Copied before the answer is known, so that an edit can copy at a refusal.)
     let JobHead {
         degree: n,
         weights: m,

@@ -50,7 +50,7 @@ impl Weights {
         }
         let len = self.len - 1;
         let mut places = self.places;
-        // By index: each turn reads the place behind the one that it writes.
+        // By index: each turn reads the place behind the one that it writes, and an edit can have it read another.
         for i in at..len {
             places[i] = places[i + 1];
         }
@@ -66,6 +66,7 @@ impl Weights {
         if !self.has_place(at) {
             return self;
         }
+        // In 64 bits, where each sum fits, and by the bounds of a word: no operand of `checked_add` could be edited to a bound one too large.
         let sum = i64::from(self.places[at]) + i64::from(e);
         let fits = (i64::from(i32::MIN)..=i64::from(i32::MAX)).contains(&sum);
         if fits {
