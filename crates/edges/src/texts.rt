@@ -1,4 +1,5 @@
 // The same cases and edges as texts: what `linres` reads, and what it writes for it. Of a long answer the first bytes are shown.
+
 // A text by its name.
 type Text<'a> = (&'a str, &'a [u8]);
 

@@ -68,46 +68,35 @@ front_is xs array e g = rw e (ap (take (length xs)) (sym g) ∙ take-append_seam
 front_fits : {A : Type 0} (xs array : List A) {n : ℕ} → n ≡ length xs → over xs array ≡ array → n ≤ length array
 front_fits xs array e g = omega (arith, ap length g, length-append xs (drop (length xs) array), length-drop (length xs) array)
 
--- ---- what the parsers answered: r is it as a result, q is how the code makes r
-module _ (t : List ℕ) {q r : Result JobHead Refusal} {cs : List ℕ} {ws : List ℤ} (e : r ≡ q) where
-  pub job_refused : {s : Result JobHead Refusal} {x y : Refusal} {lent : List ℕ × List ℤ} → r ≡ Err x → s ≡ Err y → y ≡ x → JobRoom lent →
-      Parsed job_kind (read_job t) (job_told q) (cs, ws) → ReadsJob t lent (job_told s) lent
-  job_refused {x = x} u v w room p = rw (v, w) (read_none job_laws (rw (sym e ∙ u) at p) room (λ z. omega (arith, number_positive x)))
-
-  module _ {h : JobHead} (u : r ≡ Ok h) (p : Parsed job_kind (read_job t) (job_told q) (cs, ws)) where
-    job_here : Parsed job_kind (read_job t) (job_told (Ok h)) (cs, ws)
-    job_here = rw (sym e ∙ u) at p
-
-    pub job_counts : (h.degree ≤ length cs) × (h.weights ≤ length ws)
+-- ---- a job
+module _ (t : List ℕ) {cs : List ℕ} {ws : List ℤ} where
+  module _ {h : JobHead} (p : Parsed job_kind (read_job t) (job_told (Ok h)) (cs, ws)) where
+    job_counts : (h.degree ≤ length cs) × (h.weights ≤ length ws)
     job_counts =
-        let (j, e, f, g) = found job_laws job_here refl in
+        let (j, e, f, g) = found job_laws p refl in
         (front_fits j.coeffs cs (ap (λ (x : JobRead). x.degree) f) (ap (λ l. l.0) g), front_fits j.weights ws (ap (λ (x : JobRead). x.weights) f) (ap (λ l. l.1) g))
 
-    pub job_copied : {c c' : List ℕ} {w w' : List ℤ} → JobRoom (c, w) → c' ≡ over (take h.degree cs) c → w' ≡ over (take h.weights ws) w → ReadsJob t (c, w) (job_told (Ok h)) (c', w')
-    job_copied room a b = read_whole job_laws job_here room refl (λ j f g.
+    job_copied : {c c' : List ℕ} {w w' : List ℤ} → JobRoom (c, w) → c' ≡ over (take h.degree cs) c → w' ≡ over (take h.weights ws) w
+        → ReadsJob t (c, w) (job_told (Ok h)) (c', w')
+    job_copied room a b = read_whole job_laws p room refl (λ j f g.
         let d = front_is j.coeffs cs (ap (λ (x : JobRead). x.degree) f) (ap (λ l. l.0) g) in
         let e = front_is j.weights ws (ap (λ (x : JobRead). x.weights) f) (ap (λ l. l.1) g) in
         rw (a, b, d, e))
 
--- the answer and what was copied, o being what the parser found and h that or, where it found none, counts of 0
-module _ (t : List ℕ) {cs : List ℕ} {ws : List ℤ} (o : prelude.Option JobHead) (h : JobHead) (Zero : JobHead → Type 0) (zero : Zero h → (h.degree ≡ 0) × (h.weights ≡ 0))
-    (u : UnwrapsOrElse o Zero h) (p : Parsed job_kind (read_job t) (job_told (ok_or o NoRecord)) (cs, ws)) where
-  counts_by : (x : prelude.Option JobHead) → o ≡ x → (h.degree ≤ length cs) × (h.weights ≤ length ws)
-  counts_by None e = let z = zero (rw e at u) in (omega (arith, z.0), omega (arith, z.1))
-  counts_by (Some x) e = let same : h ≡ x = rw e at u in rw same (job_counts t refl refl (rw e at p))
+  -- o is what the parser found, and h that or, where it found none, a head with counts of 0
+  pub job_counted : (o : prelude.Option JobHead) (h : JobHead) (Zero : JobHead → Type 0) → (Zero h → (h.degree ≡ 0) × (h.weights ≡ 0))
+      → UnwrapsOrElse o Zero h → Parsed job_kind (read_job t) (job_told (ok_or o NoRecord)) (cs, ws) → (h.degree ≤ length cs) × (h.weights ≤ length ws)
+  job_counted None h Zero zero u p = let z = zero u in (omega (arith, z.0), omega (arith, z.1))
+  job_counted (Some x) h Zero zero u p = rw u (job_counts p)
 
-  pub job_counted : (h.degree ≤ length cs) × (h.weights ≤ length ws)
-  job_counted = counts_by o refl
+  pub job_done : (o : prelude.Option JobHead) (h : JobHead) (Zero : JobHead → Type 0) → (Zero h → (h.degree ≡ 0) × (h.weights ≡ 0))
+      → UnwrapsOrElse o Zero h → Parsed job_kind (read_job t) (job_told (ok_or o NoRecord)) (cs, ws)
+      → {r : Result JobHead Refusal} {c c' : List ℕ} {w w' : List ℤ} → r ≡ ok_or o NoRecord → JobRoom (c, w)
+      → c' ≡ over (take h.degree cs) c → w' ≡ over (take h.weights ws) w → ReadsJob t (c, w) (job_told r) (c', w')
+  job_done None h Zero zero u p e room a b = let z = zero u in rw (e, a, b, z.0, z.1) (read_none job_laws p room (λ y. omega (arith, y)))
+  job_done (Some x) h Zero zero u p e room a b = rw e (job_copied p room (rw u at a) (rw u at b))
 
-  done_by : (x : prelude.Option JobHead) → o ≡ x → {c c' : List ℕ} {w w' : List ℤ} → JobRoom (c, w) → c' ≡ over (take h.degree cs) c → w' ≡ over (take h.weights ws) w
-      → ReadsJob t (c, w) (job_told (ok_or x NoRecord)) (c', w')
-  done_by None e room a b = let z = zero (rw e at u) in rw (a, b, z.0, z.1) (job_refused t refl {x = NoRecord} refl refl refl room (rw e at p))
-  done_by (Some x) e room a b = let same : h ≡ x = rw e at u in job_copied t refl refl (rw e at p) room (rw same at a) (rw same at b)
-
-  pub job_done : {r : Result JobHead Refusal} {c c' : List ℕ} {w w' : List ℤ} → r ≡ ok_or o NoRecord → JobRoom (c, w) → c' ≡ over (take h.degree cs) c
-      → w' ≡ over (take h.weights ws) w → ReadsJob t (c, w) (job_told r) (c', w')
-  job_done e room a b = rw e (done_by o refl room a b)
-
+-- ---- an answer: r is what the parser answered as a result, q is how the code makes r
 module _ (t : List ℕ) {q r : Result AnswerHead Refusal} {cs : List ℕ} (e : r ≡ q) where
   pub answer_refused : {s : Result AnswerHead Refusal} {x y : Refusal} {lent : List ℕ} → r ≡ Err x → s ≡ Err y → y ≡ x → AnswerRoom lent →
       Parsed answer_kind (read_answer t) (answer_told q) cs → ReadsAnswer t lent (answer_told s) lent

@@ -34,7 +34,8 @@ copied w = elim (dec_le (length w) capacity) [
 pub loop-at-preserved : goal.loop-at-preserved
 loop-at-preserved c = elim c.if-at-len.branch [
   | then-at-len t ↦
-      rw t.places-is (more c.args.weights.now c.loop-at.at (omega arith) (omega (arith, t.if-at-len)) (to_z-of_z w32 _ (record { sfits = omega (arith, t.if-at-len) })) c.loop-at.invariant)
+      let word = to_z-of_z w32 (get_or c.args.weights.now c.loop-at.at (pos 0)) (record { sfits = omega (arith, t.if-at-len) }) in
+      rw t.places-is (more c.args.weights.now c.loop-at.at (omega arith) (omega (arith, t.if-at-len)) word c.loop-at.invariant)
   | else-at-len t ↦ rw t.places-is (same c.args.weights.now c.loop-at.at (omega (arith, t.if-at-len)) c.loop-at.invariant)
 ]
 
